@@ -1,0 +1,6 @@
+pub mod FindLaws
+pub mod FoundTypes
+pub mod PartLaws
+pub mod FoundRows
+pub mod SpellingLaws
+pub mod ReadableLaws

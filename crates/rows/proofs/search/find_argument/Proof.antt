@@ -1,0 +1,68 @@
+-- `find_argument`: the search from the row reached gives what the whole search gives, until a row is found or none is left.
+use borrow.Author.Needs.{needs}
+use native.Mathlib.Omega.{arith}
+use mathlib.Core.Path.{_≡_, refl, sym, _∙_}
+use Prim.Native.Nat.{_≤_, _-_}
+use lib.Dec.{eqb}
+use borrow.Author.Tests.{eq-eqb, ne-eqb}
+use Rattle.rows.specs.Search.{find}
+use Rattle.rows.specs.Parts.{argumentNamed, argumentNameIn, argumentRows}
+use Rattle.rows.proofs.FindLaws.{find-here, find-next, find-end}
+use Rattle.rows.proofs.FoundRows.{found-row, found-no-row}
+use Prim.Native.Nat.{ℕ}
+use Rattle.rows.proofs.search.find_argument.Statement.{statement}
+use Rattle.rows.proofs.search.find_argument.Tie as tie
+
+zero-less : (n : ℕ) → n - 0 ≡ n
+zero-less n = omega arith
+
+abbrev Inv-loop : tie.InvT-loop
+Inv-loop arguments name rows i₀ i = (i ≤ argumentRows arguments) × (rows ≡ argumentRows arguments) × (argumentNamed arguments (name .0) ≡ find (λ j. eqb (argumentNameIn arguments j) (name .0)) i (argumentRows arguments - i))
+
+abbrev μ-loop : tie.MeasureT-loop
+μ-loop arguments name rows i₀ i = argumentRows arguments - i
+
+argument-rows-requires : tie.Need-argument-rows-requires Inv-loop μ-loop
+argument-rows-requires c κs = search needs
+
+loop-holds : tie.Need-loop-holds Inv-loop μ-loop
+unfolding argumentNamed
+loop-holds c = (omega arith, c .argument-rows .ensures, rw (zero-less (argumentRows (c .before .before .args .arguments .now))) refl)
+
+argument-name-requires : tie.Need-argument-name-requires Inv-loop μ-loop
+argument-name-requires c κs = search needs
+
+returns : tie.Need-returns Inv-loop μ-loop
+returns c = let t = rw (c .before .before .before .before .before .loop .inv .1) at (c .before .before .before .before .loop-test .taken) in
+    let e = c .before .before .before .before .before .loop .inv .2 ∙ find-here _ _ _ t (eq-eqb _ _ (sym (c .before .before .before .argument-name .ensures) ∙ c .if1 .taken)) in
+    sym (rw e (found-row _ _ t))
+
+add-i : tie.Need-add-i Inv-loop μ-loop
+add-i c = search needs
+
+loop-less : tie.Need-loop-less Inv-loop μ-loop
+loop-less c = search needs
+
+loop-again : tie.Need-loop-again Inv-loop μ-loop
+loop-again c = let t = rw (c .before .before .before .before .before .loop .inv .1) at (c .before .before .before .before .loop-test .taken) in
+    (omega arith, c .before .before .before .before .before .loop .inv .1, c .before .before .before .before .before .loop .inv .2 ∙ find-next _ _ _ t (ne-eqb _ _ (rw (c .before .before .before .argument-name .ensures) at (c .if1 .left))))
+
+returns-2 : tie.Need-returns-2 Inv-loop μ-loop
+returns-2 c = let t = rw (c .before .loop .inv .1) at (c .loop-test .left) in
+    let e = c .before .loop .inv .2 ∙ find-end _ _ _ t in
+    sym (rw e (found-no-row _ _ t))
+
+pub find-argument-spec : {M : Type 1} → statement M
+find-argument-spec =
+    tie.close
+    (tie.spec
+    Inv-loop
+    μ-loop
+    argument-rows-requires
+    loop-holds
+    argument-name-requires
+    returns
+    add-i
+    loop-less
+    loop-again
+    returns-2)

@@ -1,0 +1,21 @@
+-- `type_kind`: what the calls answer, put together as the definition does.
+use borrow.Author.Needs.{needs}
+use lib.Dec.{lit<}
+use Rattle.table.proofs.LayoutLaws.{inside-type}
+use Rattle.rows.proofs.types.type_kind.Statement.{statement}
+use Rattle.rows.proofs.types.type_kind.Tie as tie
+
+type-kinds-requires : tie.Need-type-kinds-requires
+type-kinds-requires c κs = search needs
+
+word-at-requires : tie.Need-word-at-requires
+word-at-requires c κs = let s = c .before .before .before in rw (c .before .type-kinds .ensures) (inside-type (s .pre .0) 1 (lit< tt), search needs)
+
+cast-word-at : tie.Need-cast-word-at
+cast-word-at c = search needs
+
+returns : tie.Need-returns
+returns c = let s = c .before .before .before .before in simp (c .word-at .ensures, c .before .before .type-kinds .ensures, s .pre .0 .same)
+
+pub type-kind-spec : {M : Type 1} → statement M
+type-kind-spec = tie.close (tie.spec type-kinds-requires cast-word-at word-at-requires returns)

@@ -1,0 +1,5 @@
+pub mod Search
+pub mod Parts
+pub mod Types
+pub mod Readable
+pub mod Found

@@ -1,0 +1,75 @@
+// Types by their rows and by their names.
+ghost use mathlib.Core.Path.{_≡_};
+ghost use Prim.Native.Nat.{_<_};
+ghost use Rattle.table.specs.Layout.{Laid, typeName, typeKind, typeFlag, root};
+ghost use Rattle.table.specs.Answers.{kindNumber};
+ghost use Rattle.rows.specs.Readable.{SoundRows};
+ghost use Rattle.rows.specs.Types.{typeNamed, foundAt};
+use crate::numbers::NameNo;
+use crate::numbers::TypeRow;
+use table::kinds::Kind;
+use table::layout::Layout;
+use table::layout::word_at;
+
+pub enum FoundType {
+    At(TypeRow),
+    Nothing,
+}
+
+pub fn type_name(words: &[u32], l: Layout, t: TypeRow) -> NameNo
+    requires { ⌜ Laid (now words) l ⌝ }
+    requires { ⌜ t .0 < l .types ⌝ }
+    ensures { λ r. ⌜ r .0 ≡ typeName (now (words .entry)) (t .0) ⌝ }
+{
+    NameNo(word_at(words, l.type_names(), t.0 as usize))
+}
+
+pub fn type_kind(words: &[u32], l: Layout, t: TypeRow) -> u32
+    requires { ⌜ Laid (now words) l ⌝ }
+    requires { ⌜ t .0 < l .types ⌝ }
+    ensures { λ r. ⌜ r ≡ typeKind (now (words .entry)) (t .0) ⌝ }
+{
+    word_at(words, l.type_kinds(), t.0 as usize)
+}
+
+// The kind as the enum, for a decision on all kinds.
+pub fn kind_of(words: &[u32], l: Layout, t: TypeRow) -> Kind
+    requires { ⌜ SoundRows (now words) l ⌝ }
+    requires { ⌜ t .0 < l .types ⌝ }
+    ensures { λ r. ⌜ kindNumber r ≡ typeKind (now (words .entry)) (t .0) ⌝ }
+{
+    Kind::of(type_kind(words, l, t))
+}
+
+pub fn type_flag(words: &[u32], l: Layout, t: TypeRow) -> u32
+    requires { ⌜ Laid (now words) l ⌝ }
+    requires { ⌜ t .0 < l .types ⌝ }
+    ensures { λ r. ⌜ r ≡ typeFlag (now (words .entry)) (t .0) ⌝ }
+{
+    word_at(words, l.type_flags(), t.0 as usize)
+}
+
+// The name of the root of an operation, or NONE.
+pub fn root_name(words: &[u32], l: Layout, operation: u32) -> NameNo
+    requires { ⌜ Laid (now words) l ⌝ }
+    requires { ⌜ operation < 3 ⌝ }
+    ensures { λ r. ⌜ r .0 ≡ root (now (words .entry)) operation ⌝ }
+{
+    NameNo(word_at(words, l.roots(), operation as usize))
+}
+
+// The type of the name.
+pub fn find_type(words: &[u32], l: Layout, name: NameNo) -> FoundType
+    requires { ⌜ Laid (now words) l ⌝ }
+    ensures { λ r. ⌜ r ≡ foundAt (typeNamed (now (words .entry)) (name .0)) (l .types) ⌝ }
+{
+    let mut t = 0;
+    while t < l.types {
+        let row = TypeRow(t as u32);
+        if type_name(words, l, row).0 == name.0 {
+            return FoundType::At(row);
+        }
+        t += 1;
+    }
+    FoundType::Nothing
+}

@@ -1,0 +1,6 @@
+pub mod Kinds
+pub mod Layout
+pub mod WellFormed
+pub mod Answers
+pub mod Sound
+pub mod Examples

@@ -1,0 +1,12 @@
+pub mod FieldLaws
+pub mod Marks
+pub mod Correct
+pub mod Total
+pub mod Order
+pub mod Shape
+pub mod Turns
+pub mod CopyLaws
+pub mod Top
+pub mod Counts
+pub mod BoardLaws
+pub mod BlankLaws

@@ -1,0 +1,72 @@
+-- The marks: what a new mark changes, and how many types are left to enter.
+use mathlib.Core.Path.{_≡_, refl, sym}
+use mathlib.Core.Logic.{_⊎_, inl, inr, ⊎-elim, _≢_}
+use mathlib.Core.List.{List}
+use Prim.Native.Nat.{ℕ, suc, zero, _≤_, _<_}
+use native.Mathlib.Omega.{arith}
+use native.Mathlib.Decide.{ℕ-discrete, decLt}
+use lib.ListN.{length, getD, set}
+use lib.Seq.{getD-set-same, getD-set-other}
+use Rattle.chains.specs.Search.{free, unit}
+
+pub same-or-not : (a b : ℕ) → (a ≡ b) ⊎ (a ≢ b)
+same-or-not a b = elim (ℕ-discrete a b) [ yes e ↦ inl e | no n ↦ inr n ]
+
+pub below-or-not : (a b : ℕ) → (a < b) ⊎ (b ≤ a)
+below-or-not a b = elim (decLt a b) [ yes h ↦ inl h | no n ↦ inr (omega arith) ]
+
+-- a number from f on is f, or comes later
+pub at-or-after : (f g : ℕ) → f ≤ g → (g ≡ f) ⊎ (f < g)
+at-or-after f g h = ⊎-elim (λ e. inl e) (λ n. inr (omega arith)) (same-or-not g f)
+
+abbrev pub Marked : List ℕ → ℕ → Type 0
+Marked W v = getD W v 0 ≡ 0 → ⊥
+
+module _ (W : List ℕ) (u : ℕ) (room : u < length W) where
+  pub mark-same : Marked (set W u 1) u
+  mark-same e = omega (arith, getD-set-same W u 1 0 room)
+
+  pub mark-grows : (v : ℕ) → Marked W v → Marked (set W u 1) v
+  mark-grows v m = ⊎-elim (λ (e : v ≡ u). rw e mark-same) (λ n. rw (getD-set-other W u v 1 0 n) m) (same-or-not v u)
+
+  pub mark-new : (v : ℕ) → Marked (set W u 1) v → (v ≡ u) ⊎ Marked W v
+  mark-new v m = ⊎-elim (λ e. inl e) (λ n. inr (rw (getD-set-other W u v 1 0 n) at m)) (same-or-not v u)
+
+  pub unmarked-old : (v : ℕ) → getD (set W u 1) v 0 ≡ 0 → getD W v 0 ≡ 0
+  unmarked-old v e = ⊎-elim (λ (d : v ≡ u). absurd (mark-same (rw d at e))) (λ n. rw (getD-set-other W u v 1 0 n) at e) (same-or-not v u)
+
+unit-le : (a b : ℕ) → (b ≡ 0 → a ≡ 0) → unit b ≤ unit a
+unit-le zero zero h = omega arith
+unit-le zero (suc b) h = omega arith
+unit-le (suc a) zero h = absurd (omega (arith, h refl))
+unit-le (suc a) (suc b) h = omega arith
+
+pub free-le : (k : ℕ) (W X : List ℕ) → ((v : ℕ) → getD X v 0 ≡ 0 → getD W v 0 ≡ 0) → free k X ≤ free k W
+unfolding free
+free-le zero W X h = omega arith
+free-le (suc k) W X h = omega (arith, free-le k W X h, unit-le (getD W k 0) (getD X k 0) (h k))
+
+-- a type that is entered is one less to enter
+pub free-falls : (k : ℕ) (W : List ℕ) (u : ℕ) → u < k → u < length W → getD W u 0 ≡ 0 → free k (set W u 1) < free k W
+unfolding free
+free-falls zero W u h room e = absurd (omega arith)
+free-falls (suc k) W u h room e =
+    ⊎-elim
+    (λ (d : u ≡ k).
+    let a : getD (set W u 1) k 0 ≡ 1 = rw (← d) (getD-set-same W u 1 0 room) in
+    let b : getD W k 0 ≡ 0 = rw d at e in
+    rw (a, b) (omega (arith, free-le k W (set W u 1) (unmarked-old W u room))))
+    (λ (n : u ≢ k).
+    let a : getD (set W u 1) k 0 ≡ getD W k 0 = getD-set-other W u k 1 0 (λ q. n (sym q)) in
+    let lt : u < k = omega arith in
+    rw a (omega (arith, free-falls k W u lt room e)))
+    (same-or-not u k)
+
+unit-most : (a : ℕ) → unit a ≤ 1
+unit-most zero = omega arith
+unit-most (suc a) = omega arith
+
+pub free-most : (k : ℕ) (W : List ℕ) → free k W ≤ k
+unfolding free
+free-most zero W = omega arith
+free-most (suc k) W = omega (arith, free-most k W, unit-most (getD W k 0))

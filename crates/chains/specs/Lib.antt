@@ -1,0 +1,5 @@
+pub mod Chains
+pub mod Fields
+pub mod Answer
+pub mod Search
+pub mod Boards

@@ -1,0 +1,66 @@
+// The search with marks. The work words hold a mark for each type, and behind the marks the field rows of the chain that was found.
+ghost use mathlib.Core.Path.{_≡_};
+ghost use Rattle.table.specs.Layout.{Laid, fieldsStart};
+ghost use Rattle.chains.specs.Fields.{chainGraph};
+ghost use Rattle.chains.specs.Search.{Ready, Walked};
+use crate::fields::chains_end;
+use crate::fields::target;
+use rows::numbers::TypeRow;
+use rows::parts::fields_start;
+use table::layout::Layout;
+
+// Walks the fields of type s, which is entered, to the type t. `depth` fields lead to s. Answers 0 where no chain leads to t but
+// through marked types, and else how many fields lead to t; those behind the first `depth` are written.
+pub fn walk_type(
+    words: &[u32],
+    l: Layout,
+    t: TypeRow,
+    s: TypeRow,
+    depth: usize,
+    work: &mut [u32],
+) -> usize
+    requires { ⌜ Laid (now words) l ⌝ }
+    requires { ⌜ Ready (chainGraph (now words)) (l .fields) (s .0) depth (now work) ⌝ }
+    ensures { λ n. ⌜ Walked (chainGraph (now (words .entry))) (t .0) (s .0) (fieldsStart (now (words .entry)) (s .0)) depth (now (work .entry)) (now (work .exit)) n ⌝ }
+{
+    walk_fields(words, l, t, s, fields_start(words, l, s), depth, work)
+}
+
+// The same for the fields of s from `first` on: each type that they lead to is entered where it is not marked.
+fn walk_fields(
+    words: &[u32],
+    l: Layout,
+    t: TypeRow,
+    s: TypeRow,
+    first: usize,
+    depth: usize,
+    work: &mut [u32],
+) -> usize
+    requires { ⌜ Laid (now words) l ⌝ }
+    requires { ⌜ Ready (chainGraph (now words)) (l .fields) (s .0) depth (now work) ⌝ }
+    ensures { λ n. ⌜ Walked (chainGraph (now (words .entry))) (t .0) (s .0) first depth (now (work .entry)) (now (work .exit)) n ⌝ }
+{
+    let types = l.types;
+    let end = chains_end(words, l, s);
+    let mut f = first;
+    while f < end {
+        let u = target(words, l, f);
+        if u < types {
+            if u == t.0 as usize {
+                work[types + depth] = f as u32;
+                return depth + 1;
+            }
+            if work[u] == 0 {
+                work[u] = 1;
+                let next = TypeRow(u as u32);
+                let n = walk_type(words, l, t, next, depth + 1, work);
+                if n != 0 {
+                    work[types + depth] = f as u32;
+                    return n;
+                }
+            }
+        }
+        f += 1;
+    }
+    0
+}

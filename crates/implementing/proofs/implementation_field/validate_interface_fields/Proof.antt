@@ -1,0 +1,81 @@
+-- `validate_interface_fields`: after i rows the output holds their records, and each turn writes one row's behind them.
+use borrow.Author.Needs.{needs}
+use native.Mathlib.Omega.{arith}
+use Rattle.rules.specs.Bounds.{mostOfInterfaceField}
+use Rattle.records.proofs.Records.{each-zero, each-more, emit-none, emit-seq}
+use Rattle.records.specs.Records.{Emitted, each}
+use Rattle.implementing.specs.Rules.{fieldRule}
+use mathlib.Core.Path.{_≡_}
+use Prim.Native.Nat.{_≤_, _-_, _*_}
+use Rattle.rows.specs.Parts.{fieldRows}
+use Rattle.implementing.proofs.implementation_field.validate_interface_fields.Statement.{statement}
+use Rattle.implementing.proofs.implementation_field.validate_interface_fields.Tie as tie
+
+abbrev Inv-loop : tie.InvT-loop
+Inv-loop rule words l t first fields e ifs ifirst out₀ rows n₀ i₀ out n i = (i ≤ fieldRows ifs) × (rows ≡ fieldRows ifs) × (n ≤ mostOfInterfaceField * i) × Emitted (each (fieldRule rule words (t .0) first fields e ifs ifirst) i) out₀ out n
+
+abbrev μ-loop : tie.MeasureT-loop
+μ-loop rule words l t first fields e ifs ifirst out₀ rows n₀ i₀ out n i = fieldRows ifs - i
+
+field-rows-requires : tie.Need-field-rows-requires Inv-loop μ-loop
+field-rows-requires c κs = search needs
+
+loop-holds : tie.Need-loop-holds Inv-loop μ-loop
+loop-holds c = (omega arith, c .field-rows .ensures, omega arith, rw each-zero (emit-none _))
+
+used-requires : tie.Need-used-requires Inv-loop μ-loop
+used-requires c κs = search needs
+
+mul-validate-interface-field : tie.Need-mul-validate-interface-field Inv-loop μ-loop
+mul-validate-interface-field c = search needs
+
+sub-validate-interface-field : tie.Need-sub-validate-interface-field Inv-loop μ-loop
+sub-validate-interface-field c = search needs
+
+part-validate-interface-field-start : tie.Need-part-validate-interface-field-start Inv-loop μ-loop
+part-validate-interface-field-start c = search needs
+
+part-validate-interface-field-end : tie.Need-part-validate-interface-field-end Inv-loop μ-loop
+part-validate-interface-field-end c = search needs
+
+validate-interface-field-requires : tie.Need-validate-interface-field-requires Inv-loop μ-loop
+validate-interface-field-requires c κs = (c .before .before .before .before .before .before .before .before .before .pre .0, (c .before .before .before .before .before .before .before .before .before .pre .1 .0, (c .before .before .before .before .before .before .before .before .before .pre .1 .1, (rw (c .before .before .before .loop .inv .1) at (c .before .before .loop-test .taken)))))
+
+add-n : tie.Need-add-n Inv-loop μ-loop
+add-n c = search needs
+
+add-i : tie.Need-add-i Inv-loop μ-loop
+add-i c = search needs
+
+loop-less : tie.Need-loop-less Inv-loop μ-loop
+loop-less c = search needs
+
+loop-again : tie.Need-loop-again Inv-loop μ-loop
+loop-again c = (search needs, c .before .before .before .before .before .before .loop .inv .1, search needs, rw each-more (emit-seq _ _ _ _ _ _ _ _ (c .before .before .before .before .before .before .loop .inv .3) (c .before .before .before .before .used .ensures) (c .before .before .validate-interface-field .ensures .0)))
+
+same-length : tie.Need-same-length Inv-loop μ-loop
+same-length c = search needs
+
+returns : tie.Need-returns Inv-loop μ-loop
+returns c = let e : c .before .loop .i ≡ fieldRows (c .before .before .before .before .before .before .before .args .interface-fields .now) = omega arith in (rw e at (c .before .loop .inv .3), omega arith)
+
+pub validate-interface-fields-spec : {M : Type 1} → statement M
+validate-interface-fields-spec =
+    tie.close
+    (tie.spec
+    Inv-loop
+    μ-loop
+    field-rows-requires
+    loop-holds
+    used-requires
+    mul-validate-interface-field
+    sub-validate-interface-field
+    part-validate-interface-field-start
+    part-validate-interface-field-end
+    validate-interface-field-requires
+    add-n
+    add-i
+    loop-less
+    loop-again
+    same-length
+    returns)

@@ -1,0 +1,44 @@
+-- `validate_edge_defined`: each branch lists what the definition lists there, by the tests that led to it.
+use borrow.Author.Needs.{needs}
+use native.Mathlib.Omega.{arith}
+use Rattle.records.proofs.Records.{emit-none}
+use Rattle.implementing.proofs.InterfaceLaws.{interface-none, interface-at}
+use Rattle.implementing.proofs.implements_interfaces.validate_edge_defined.Statement.{statement}
+use Rattle.implementing.proofs.implements_interfaces.validate_edge_defined.Tie as tie
+
+find-interface-requires : tie.Need-find-interface-requires
+find-interface-requires c κs = search needs
+
+enum-told : tie.Need-enum-told
+enum-told c = search needs
+
+enum-told-2 : tie.Need-enum-told-2
+enum-told-2 c = search needs
+
+undefined-definition-requires : tie.Need-undefined-definition-requires
+undefined-definition-requires c κs = search needs
+
+put-requires : tie.Need-put-requires
+put-requires c κs = search needs
+
+same-length : tie.Need-same-length
+same-length c = search needs
+
+returns : tie.Need-returns
+returns c = (simp (interface-none _ _ _ (c .before .before .before .before .before .before .before .before .before .before .pre) _ (c .before .before .before .before .before .before .before .find-interface .ensures) (c .before .before .before .before .before .enum-told2 .given .1), ← c .before .before .before .undefined-definition .ensures) (c .before .before .put .ensures .0), c .before .before .put .ensures .1)
+
+returns-2 : tie.Need-returns-2
+returns-2 c = (simp (interface-at _ _ _ (c .before .before .before .before .before .pre) _ (c .before .before .find-interface .ensures) _ (c .enum-told .given .1) .there) (emit-none _), omega arith)
+
+pub validate-edge-defined-spec : {M : Type 1} → statement M
+validate-edge-defined-spec =
+    tie.close
+    (tie.spec
+    find-interface-requires
+    enum-told
+    enum-told-2
+    undefined-definition-requires
+    put-requires
+    same-length
+    returns
+    returns-2)

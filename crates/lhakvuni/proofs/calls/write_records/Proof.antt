@@ -1,0 +1,39 @@
+-- What was counted is what is written.
+use borrow.Author.Needs.{needs}
+use mathlib.Core.Path.{refl}
+use Rattle.lhakvuni.proofs.OutputLaws.{records-short, records-done}
+use Rattle.lhakvuni.proofs.calls.write_records.Statement.{statement}
+use Rattle.lhakvuni.proofs.calls.write_records.Tie as tie
+
+count-records-requires : tie.Need-count-records-requires
+count-records-requires c κs = search needs
+
+mul-need : tie.Need-mul-need
+mul-need c = search needs
+
+same-length : tie.Need-same-length
+same-length c = search needs
+
+returns : tie.Need-returns
+returns c = records-short _ _ _ _ _ (c .before .before .before .count-records .ensures .0) refl (c .before .before .before .count-records .ensures .1 .1) (c .if1 .taken)
+
+validate-schema-requires : tie.Need-validate-schema-requires
+validate-schema-requires c κs = search needs
+
+same-length-2 : tie.Need-same-length-2
+same-length-2 c = search needs
+
+returns-2 : tie.Need-returns-2
+returns-2 c = records-done _ _ _ _ _ (c .before .before .before .before .before .before .before .count-records .ensures .0) refl (c .before .before .before .before .before .before .before .count-records .ensures .1 .1) _ _ (c .before .before .before .before .if1 .left) (c .before .before .validate-schema .ensures .0)
+
+pub write-records-spec : {M : Type 1} → statement M
+write-records-spec =
+    tie.close
+    (tie.spec
+    count-records-requires
+    mul-need
+    same-length
+    returns
+    validate-schema-requires
+    same-length-2
+    returns-2)

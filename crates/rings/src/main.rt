@@ -1,0 +1,86 @@
+// A ring of 1,024 input objects and a ladder of 1,024, each searched to the end: the first cycle of a type of the ring goes through all
+// of it, and no type of the ladder has one, though the number of ways down the ladder has more than two hundred digits.
+mod build;
+
+use build::LADDER_FIELDS;
+use build::LADDER_WORDS;
+use build::RING_FIELDS;
+use build::RING_WORDS;
+use build::Shape;
+use build::TEXT;
+use build::TYPES;
+use build::write_table;
+use build::write_text;
+use chains::cycle::clear;
+use chains::cycle::first_cycle;
+use rows::numbers::TypeRow;
+use table::check::Verdict;
+use table::check::check_table;
+use table::layout::layout_of;
+use table::layout::wide;
+
+// How many rows of out, from the first, follow each other round the ring from row t on.
+fn in_order(out: &[u32], t: u32) -> usize {
+    let mut n = 0;
+    while n < out.len() {
+        if wide(out[n]) != (wide(t) + n) % TYPES {
+            return n;
+        }
+        n += 1;
+    }
+    n
+}
+
+fn print(n: usize) {
+    io::write_all(1, b" ");
+    io::print_decimal(1, n as u64);
+}
+
+// Prints the count of type t, and how many rows of its first cycle are those of the ring from t on.
+fn search(label: &[u8], text: &[u8], words: &[u32], t: u32, work: &mut [u32], out: &mut [u32]) {
+    io::write_all(1, label);
+    let Verdict::WellFormed = check_table(text, words) else {
+        io::write_all(1, b" refused\n");
+        return;
+    };
+    let l = layout_of(words);
+    let marks = 2 * l.types;
+    if wide(t) >= l.types {
+        io::write_all(1, b" no type\n");
+        return;
+    }
+    if work.len() < marks {
+        io::write_all(1, b" no room\n");
+        return;
+    }
+    clear(work, marks);
+    let n = first_cycle(words, l, TypeRow(t), work, out);
+    print(n);
+    if n <= out.len() {
+        print(in_order(&out[..n], t));
+    }
+    io::write_all(1, b"\n");
+}
+
+fn ring(text: &[u8], work: &mut [u32], out: &mut [u32]) {
+    let mut words = [0; RING_WORDS];
+    write_table(&mut words, Shape::Ring, RING_FIELDS);
+    search(b"ring", text, &words, 0, work, out);
+    search(b"ring", text, &words, 1000, work, out);
+}
+
+fn ladder(text: &[u8], work: &mut [u32], out: &mut [u32]) {
+    let mut words = [0; LADDER_WORDS];
+    write_table(&mut words, Shape::Ladder, LADDER_FIELDS);
+    search(b"ladder", text, &words, 0, work, out);
+    search(b"ladder", text, &words, 1022, work, out);
+}
+
+fn main() {
+    let mut text = [0; TEXT];
+    let mut work = [0; 2 * TYPES];
+    let mut out = [0; TYPES];
+    write_text(&mut text);
+    ring(&text, &mut work, &mut out);
+    ladder(&text, &mut work, &mut out);
+}

@@ -1,0 +1,154 @@
+// Fields of objects and interfaces: 5; the arguments; then 3 or 19.
+ghost use mathlib.Core.List.{_++_};
+ghost use Prim.Native.Nat.{_+_, _*_, _≤_, _<_};
+ghost use Rattle.table.specs.Layout.{argumentsStart};
+ghost use Rattle.records.specs.Records.{Emitted};
+ghost use Rattle.records.specs.Rows.{atField};
+ghost use Rattle.rows.specs.Parts.{fieldRows, argumentsOf};
+ghost use Rattle.rows.specs.Readable.{Readable, FieldPart};
+ghost use Rattle.rules.specs.Names.{nameRecord};
+ghost use Rattle.rules.specs.InputObject.{argumentsRecords};
+ghost use Rattle.rules.specs.Field.{outputTypeRecord, fieldRecord, fieldsRecords};
+ghost use Rattle.rules.specs.Bounds.{mostOfArguments, mostOfField};
+ghost use Rattle.table.specs.Layout.{mostFields};
+use crate::input_object::validate_argument_definitions;
+use crate::type_system_name::validate_type_system_name;
+use records::Place;
+use records::Record;
+use records::put;
+use records::used;
+use rows::cells::field_name;
+use rows::cells::field_rows;
+use rows::cells::field_type;
+use rows::numbers::NameNo;
+use rows::numbers::TypeRow;
+use rows::parts::arguments_of;
+use rows::parts::arguments_start;
+use rows::spelling::is_builtin;
+use rows::types::FoundType;
+use rows::types::find_type;
+use rows::types::type_kind;
+use table::kinds::Kind;
+use table::layout::Layout;
+
+// A type here: 19 for kind 5. Another: 3 unless it is a built-in scalar.
+fn validate_output_type(
+    text: &[u8],
+    words: &[u32],
+    l: Layout,
+    t: TypeRow,
+    name: NameNo,
+    row: u32,
+    out: &mut [u32],
+) -> usize
+    requires { ⌜ Readable (now text) (now words) l ⌝ }
+    requires { ⌜ name .0 < l .names ⌝ }
+    ensures { λ n. ⌜ Emitted (outputTypeRecord (now (text .entry)) (now (words .entry)) (t .0) (name .0) row) (now (out .entry)) (now (out .exit)) n ⌝ }
+    ensures { λ n. ⌜ n ≤ 1 ⌝ }
+{
+    match find_type(words, l, name) {
+        FoundType::Nothing => {
+            if is_builtin(text, words, l, name) {
+                return 0;
+            }
+            put(
+                out,
+                Record::undefined_definition(t, name, Place::FIELD, row),
+            )
+        }
+        FoundType::At(ty) => {
+            if type_kind(words, l, ty) == Kind::INPUT_OBJECT {
+                return put(out, Record::output_type(t, row));
+            }
+            0
+        }
+    }
+}
+
+// 5, and the arguments.
+fn validate_field_definition(
+    text: &[u8],
+    words: &[u32],
+    l: Layout,
+    t: TypeRow,
+    name: NameNo,
+    f: usize,
+    out: &mut [u32],
+) -> usize
+    requires { ⌜ Readable (now text) (now words) l ⌝ }
+    requires { ⌜ (t .0 < l .types) × (name .0 < l .names) × (f < l .fields) ⌝ }
+    ensures { λ n. ⌜ Emitted (nameRecord (now (text .entry)) (now (words .entry)) (t .0) (name .0) atField f ++ argumentsRecords (now (text .entry)) (now (words .entry)) (t .0) (argumentsStart (now (words .entry)) f) (argumentsOf (now (words .entry)) f)) (now (out .entry)) (now (out .exit)) n ⌝ }
+    ensures { λ n. ⌜ n ≤ mostOfArguments + 1 ⌝ }
+{
+    let n = validate_type_system_name(text, words, l, t, name, Place::FIELD, f as u32, out);
+    let at = used(n, out.len());
+    let first = arguments_start(words, l, f);
+    n
+        + validate_argument_definitions(
+            text,
+            words,
+            l,
+            t,
+            first,
+            arguments_of(words, l, f),
+            &mut out[at..],
+        )
+}
+
+// Field i of the part.
+fn validate_field(
+    text: &[u8],
+    words: &[u32],
+    l: Layout,
+    t: TypeRow,
+    first: usize,
+    fields: &[u32],
+    i: usize,
+    out: &mut [u32],
+) -> usize
+    requires { ⌜ Readable (now text) (now words) l ⌝ }
+    requires { ⌜ (t .0 < l .types) × (i < fieldRows (now fields)) ⌝ }
+    requires { ⌜ FieldPart l first (now fields) ⌝ }
+    ensures { λ n. ⌜ Emitted (fieldRecord (now (text .entry)) (now (words .entry)) (t .0) first (now (fields .entry)) i) (now (out .entry)) (now (out .exit)) n ⌝ }
+    ensures { λ n. ⌜ n ≤ mostOfField ⌝ }
+{
+    let f = first + i;
+    let n = validate_field_definition(text, words, l, t, field_name(fields, i), f, out);
+    let at = used(n, out.len());
+    n
+        + validate_output_type(
+            text,
+            words,
+            l,
+            t,
+            field_type(fields, i),
+            f as u32,
+            &mut out[at..],
+        )
+}
+
+pub fn validate_field_definitions(
+    text: &[u8],
+    words: &[u32],
+    l: Layout,
+    t: TypeRow,
+    first: usize,
+    fields: &[u32],
+    out: &mut [u32],
+) -> usize
+    requires { ⌜ Readable (now text) (now words) l ⌝ }
+    requires { ⌜ t .0 < l .types ⌝ }
+    requires { ⌜ FieldPart l first (now fields) ⌝ }
+    ensures { λ n. ⌜ Emitted (fieldsRecords (now (text .entry)) (now (words .entry)) (t .0) first (now (fields .entry))) (now (out .entry)) (now (out .exit)) n ⌝ }
+    ensures { λ n. ⌜ n ≤ mostOfField * mostFields ⌝ }
+{
+    let rows = field_rows(fields);
+    let mut n = 0;
+    let mut i = 0;
+    while i < rows {
+        let at = used(n, out.len());
+        n += validate_field(text, words, l, t, first, fields, i, &mut out[at..]);
+        i += 1;
+    }
+    n
+}

@@ -1,0 +1,97 @@
+// Object: its fields; 7; its edges. Interface: 6 per edge naming itself, then as object.
+ghost use mathlib.Core.List.{_∷_, [], _++_};
+ghost use Prim.Native.Nat.{_≤_, _<_};
+ghost use lib.Dec.{eqb};
+ghost use Rattle.records.specs.Records.{Emitted, when};
+ghost use Rattle.records.specs.Rows.{emptyFieldSet};
+ghost use Rattle.rows.specs.Parts.{fieldRows};
+ghost use Rattle.rows.specs.Readable.{Readable, FieldPart};
+ghost use Rattle.rules.specs.Field.{fieldsRecords};
+ghost use Rattle.rules.specs.Object.{objectRecords, interfaceRecords};
+ghost use Rattle.rules.specs.Bounds.{mostOfFields, mostOfObject, mostOfKind};
+use implementing::interface::validate_edges;
+use implementing::recursive_interface::validate_self_edges;
+use records::Record;
+use records::put;
+use records::used;
+use rows::cells::field_rows;
+use rows::numbers::TypeRow;
+use rows::parts::edges_of;
+use rows::parts::edges_start;
+use rows::parts::fields_of;
+use rows::parts::fields_start;
+use rules::field::validate_field_definitions;
+use table::layout::Layout;
+
+// The fields; 7 where there is none.
+fn validate_fields(
+    text: &[u8],
+    words: &[u32],
+    l: Layout,
+    t: TypeRow,
+    first: usize,
+    fields: &[u32],
+    out: &mut [u32],
+) -> usize
+    requires { ⌜ Readable (now text) (now words) l ⌝ }
+    requires { ⌜ t .0 < l .types ⌝ }
+    requires { ⌜ FieldPart l first (now fields) ⌝ }
+    ensures { λ n. ⌜ Emitted (fieldsRecords (now (text .entry)) (now (words .entry)) (t .0) first (now (fields .entry)) ++ when (eqb (fieldRows (now (fields .entry))) 0) (emptyFieldSet (t .0) ∷ [])) (now (out .entry)) (now (out .exit)) n ⌝ }
+    ensures { λ n. ⌜ n ≤ mostOfFields ⌝ }
+{
+    let n = validate_field_definitions(text, words, l, t, first, fields, out);
+    if field_rows(fields) == 0 {
+        let at = used(n, out.len());
+        return n + put(&mut out[at..], Record::empty_field_set(t));
+    }
+    n
+}
+
+pub fn validate_object_type_definition(
+    text: &[u8],
+    words: &[u32],
+    l: Layout,
+    t: TypeRow,
+    out: &mut [u32],
+) -> usize
+    requires { ⌜ Readable (now text) (now words) l ⌝ }
+    requires { ⌜ t .0 < l .types ⌝ }
+    ensures { λ n. ⌜ Emitted (objectRecords (now (text .entry)) (now (words .entry)) (t .0)) (now (out .entry)) (now (out .exit)) n ⌝ }
+    ensures { λ n. ⌜ n ≤ mostOfObject ⌝ }
+{
+    let first = edges_start(words, l, t);
+    let edges = edges_of(words, l, t);
+    let fields_first = fields_start(words, l, t);
+    let fields = fields_of(words, l, t);
+    let n = validate_fields(text, words, l, t, fields_first, fields, out);
+    let at = used(n, out.len());
+    n
+        + validate_edges(
+            words,
+            l,
+            t,
+            first,
+            edges,
+            fields_first,
+            fields,
+            &mut out[at..],
+        )
+}
+
+pub fn validate_interface_definition(
+    text: &[u8],
+    words: &[u32],
+    l: Layout,
+    t: TypeRow,
+    out: &mut [u32],
+) -> usize
+    requires { ⌜ Readable (now text) (now words) l ⌝ }
+    requires { ⌜ t .0 < l .types ⌝ }
+    ensures { λ n. ⌜ Emitted (interfaceRecords (now (text .entry)) (now (words .entry)) (t .0)) (now (out .entry)) (now (out .exit)) n ⌝ }
+    ensures { λ n. ⌜ n ≤ mostOfKind ⌝ }
+{
+    let first = edges_start(words, l, t);
+    let n = validate_self_edges(words, l, t, first, edges_of(words, l, t), out);
+    let at = used(n, out.len());
+    n + validate_object_type_definition(text, words, l, t, &mut out[at..])
+}

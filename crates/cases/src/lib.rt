@@ -17,6 +17,9 @@ use lhakvuni::answer::number;
 use lhakvuni::calls::check_table;
 use lhakvuni::calls::first_cycle;
 use lhakvuni::calls::records;
+use lhakvuni::judging::Judgement;
+use lhakvuni::judging::check_evidence;
+use lhakvuni::making::make_evidence;
 
 pub mod input;
 
@@ -72,13 +75,47 @@ fn first_cycle_right(
     answer_right(head, first_cycle(text, words, head.row, work, out))
 }
 
+// The judgement has the row and the rule that the case asks for, or the refusal's number; a case has 0 for what is not there.
+fn judgement_right(head: Head, j: Judgement) -> bool {
+    match j {
+        Judgement::Passes => (head.number == 0) & (head.value == 0) & (head.rule == 0),
+        Judgement::Breaks { row, rule } => {
+            (head.number == 0) & (head.value == row.0) & (head.rule == rule)
+        }
+        Judgement::Refused(n) => (head.number == n) & (head.value == 0) & (head.rule == 0),
+    }
+}
+
+fn check_evidence_right(head: Head, text: &[u8], words: &[u32], evidence: &[u32]) -> bool {
+    judgement_right(head, check_evidence(text, words, evidence))
+}
+
+fn make_evidence_right(
+    head: Head,
+    text: &[u8],
+    words: &[u32],
+    work: &mut [u32],
+    out: &mut [u32],
+) -> bool {
+    answer_right(head, make_evidence(text, words, work, out))
+}
+
 // Makes the call of a case; what it leaves in the work table and the output is compared by the caller.
-fn call_right(head: Head, text: &[u8], words: &[u32], work: &mut [u32], out: &mut [u32]) -> bool {
+fn call_right(
+    head: Head,
+    text: &[u8],
+    words: &[u32],
+    evidence: &[u32],
+    work: &mut [u32],
+    out: &mut [u32],
+) -> bool {
     let call = head.call;
     match call {
         1 => check_table_right(head, text, words),
         2 => records_right(head, text, words, work, out),
         3 => first_cycle_right(head, text, words, work, out),
+        4 => check_evidence_right(head, text, words, evidence),
+        5 => make_evidence_right(head, text, words, work, out),
         _ => false,
     }
 }
@@ -108,18 +145,27 @@ fn read_memory(head: Head, works: &mut [u32], outs: &mut [u32])
 }
 
 // Makes the call of a case on the buffers.
-fn case_right(head: Head, texts: &[u8], tables: &[u32], works: &mut [u32], outs: &mut [u32]) -> bool
+fn case_right(
+    head: Head,
+    texts: &[u8],
+    tables: &[u32],
+    evidence: &[u32],
+    works: &mut [u32],
+    outs: &mut [u32],
+) -> bool
     requires { ⌜ Sized head ⌝ }
-    requires { ⌜ (4096 ≤ length (now texts)) × (4096 ≤ length (now tables)) × (4096 ≤ length (now works)) × (4096 ≤ length (now outs)) ⌝ }
+    requires { ⌜ (4096 ≤ length (now texts)) × (4096 ≤ length (now tables)) × (4096 ≤ length (now evidence)) × (4096 ≤ length (now works)) × (4096 ≤ length (now outs)) ⌝ }
 {
     let bytes = head.text;
     let rows = head.words;
+    let marks = head.evidence;
     let work = head.work;
     let out = head.out;
     call_right(
         head,
         &texts[..bytes],
         &tables[..rows],
+        &evidence[..marks],
         &mut works[..work],
         &mut outs[..out],
     )
@@ -155,7 +201,7 @@ fn run_case(head: Head) -> bool
     read_inputs(head, &mut texts, &mut tables, &mut evidence);
     read_memory(head, &mut works, &mut outs);
     read_memory(head, &mut works_after, &mut outs_after);
-    let right = case_right(head, &texts, &tables, &mut works, &mut outs);
+    let right = case_right(head, &texts, &tables, &evidence, &mut works, &mut outs);
     right & memory_right(head, &works, &outs, &works_after, &outs_after)
 }
 
@@ -195,6 +241,8 @@ fn report_all(tally: Tally) {
     report(b"check_table", tally.right[1], tally.ran[1]);
     report(b"records", tally.right[2], tally.ran[2]);
     report(b"first_cycle", tally.right[3], tally.ran[3]);
+    report(b"check_evidence", tally.right[4], tally.ran[4]);
+    report(b"make_evidence", tally.right[5], tally.ran[5]);
 }
 
 // Runs every case of standard input.

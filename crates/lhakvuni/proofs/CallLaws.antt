@@ -56,7 +56,7 @@ module _ (text w : List ℕ) (v : Verdict) (e : numberOf v ≡ refusal text w) w
 
     -- 9
     pub records-work : (work out : List ℕ) → length work < workWords * l .types → RecordsKept text w work out work out (Refuse 9)
-    records-work work out h = records-refuse text w work out 9 (records-number text w accepted work ∙ work-short w l same work h) nine
+    records-work work out h = records-refuse text w work out 9 (records-number text w accepted work ∙ work-short w l same workWords work h) nine
 
     -- 10 or a success: the counts were filled in, the rows written or not, and the work words cleared
     pub records-given : (work mid work′ out out′ cycles : List ℕ) (a : Answer) → workWords * l .types ≤ length work → Counted (chainGraph w) work mid
@@ -76,7 +76,7 @@ module _ (text w : List ℕ) (v : Verdict) (e : numberOf v ≡ refusal text w) w
                 rw f (c .counts u h);
             list = refl;
           };
-          promise = promise-given _ _ _ _ work out work′ out′ a (records-number text w accepted work ∙ work-long w l same work room) o (rw (c .rest) at y);
+          promise = promise-given _ _ _ _ work out work′ out′ a (records-number text w accepted work ∙ work-long w l same workWords work room) o (rw (c .rest) at y);
         }
 
 -- a closed chain ends at a type
@@ -115,7 +115,7 @@ module _ (text w : List ℕ) (v : Verdict) (e : numberOf v ≡ refusal text w) w
 
       -- 9
       pub cycle-work-short : (work out : List ℕ) → length work < workWords * l .types → FirstCycleKept text w t work out work out (Refuse 9)
-      cycle-work-short work out h = cycle-refuse text w t work out 9 (cycle-work text w (accepted text w v e good l same) t work (sym row ∙ z) ∙ work-short w l same work h) nine
+      cycle-work-short work out h = cycle-refuse text w t work out 9 (cycle-work text w (accepted text w v e good l same) t work (sym row ∙ z) ∙ work-short w l same workWords work h) nine
 
       -- 10 or a success
       pub cycle-given : (work work′ out out′ : List ℕ) (a : Answer) → workWords * l .types ≤ length work → CycleOutput (chainGraph w) t out out′ a
@@ -124,5 +124,5 @@ module _ (text w : List ℕ) (v : Verdict) (e : numberOf v ≡ refusal text w) w
           record {
             rows = o .rows;
             first = o .first;
-            promise = promise-given _ _ _ _ work out work′ out′ a (cycle-work text w (accepted text w v e good l same) t work (sym row ∙ z) ∙ work-long w l same work room) (o .output) (rw (types-are w l same) at y);
+            promise = promise-given _ _ _ _ work out work′ out′ a (cycle-work text w (accepted text w v e good l same) t work (sym row ∙ z) ∙ work-long w l same workWords work room) (o .output) (rw (types-are w l same) at y);
           }

@@ -4,3 +4,4 @@ pub mod OutputLaws
 pub mod WorkLaws
 pub mod CallLaws
 pub mod OneAnswer
+pub mod EvidenceLaws

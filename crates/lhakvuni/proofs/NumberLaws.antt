@@ -7,7 +7,7 @@ use Prim.Native.Nat.{ℕ, zero, suc, _*_, _≤_, _<_}
 use native.Mathlib.Omega.{arith}
 use lib.Dec.{ltb}
 use lib.ListN.{length}
-use borrow.Author.Tests.{lt-ltb, le-ltb, ltb-true}
+use borrow.Author.Tests.{lt-ltb, le-ltb, ltb-true, eq-eqb, ne-eqb}
 use Rattle.table.specs.declared.layout.Layout.{Layout}
 use Rattle.table.specs.declared.check.Verdict.{Verdict}
 use Rattle.table.specs.declared.check.Verdict.the-variants.{WellFormed, Refused}
@@ -18,8 +18,9 @@ use Rattle.table.specs.WellFormed.{refusal}
 use Rattle.rows.specs.Readable.{SoundRows, Readable}
 use Rattle.rows.proofs.ReadableLaws.{sound-rows, readable}
 use Rattle.names.proofs.BoolLaws.{decide, and-left}
+use Rattle.evidence.specs.Words.{evidenceWords}
 use Rattle.chains.specs.Fields.{isInputObject}
-use Rattle.lhakvuni.specs.Calls.{orElse, rowNumber, workNumber, workWords, recordsNumber, cycleNumber}
+use Rattle.lhakvuni.specs.Calls.{orElse, rowNumber, workNumber, workWords, evidenceNumber, recordsNumber, cycleNumber, judgeNumber, makeNumber}
 
 pub or-first : (n next : ℕ) → n ≢ 0 → orElse n next ≡ n
 or-first zero next h = absurd (h refl)
@@ -44,6 +45,14 @@ module _ (v : Verdict) (text w : List ℕ) (e : numberOf v ≡ refusal text w) (
   unfolding cycleNumber
   cycle-refused t work = rw refusal-is (or-first n _ refusal-some)
 
+  pub judge-refused : (ev : List ℕ) → judgeNumber text w ev ≡ n
+  unfolding judgeNumber
+  judge-refused ev = rw refusal-is (or-first n _ refusal-some)
+
+  pub make-refused : (work : List ℕ) → makeNumber text w work ≡ n
+  unfolding makeNumber
+  make-refused work = rw refusal-is (or-first n _ refusal-some)
+
 -- a well-formed table, by its own layout
 module _ (w : List ℕ) (l : Layout) (same : l ≡ layoutOf w) where
   pub types-are : l .types ≡ typeCount w
@@ -61,16 +70,24 @@ module _ (w : List ℕ) (l : Layout) (same : l ≡ layoutOf w) where
   unfolding rowNumber
   row-other t h e = let k : t < typeCount w = rw types-are at h in rw (lt-ltb t (typeCount w) k, e)
 
-  pub work-short : (work : List ℕ) → length work < workWords * l .types → workNumber w work ≡ 9
+  pub work-short : (each : ℕ) (work : List ℕ) → length work < each * l .types → workNumber each w work ≡ 9
   unfolding workNumber
-  work-short work h = let k : length work < workWords * typeCount w = rw types-are at h in rw (lt-ltb _ _ k)
+  work-short each work h = let k : length work < each * typeCount w = rw types-are at h in rw (lt-ltb _ _ k)
 
-  pub work-long : (work : List ℕ) → workWords * l .types ≤ length work → workNumber w work ≡ 0
+  pub work-long : (each : ℕ) (work : List ℕ) → each * l .types ≤ length work → workNumber each w work ≡ 0
   unfolding workNumber
-  work-long work h = let k : workWords * typeCount w ≤ length work = rw types-are at h in rw (le-ltb _ _ k)
+  work-long each work h = let k : each * typeCount w ≤ length work = rw types-are at h in rw (le-ltb _ _ k)
+
+  pub evidence-other : (ev : List ℕ) → (length ev ≡ evidenceWords * l .types → ⊥) → evidenceNumber w ev ≡ 8
+  unfolding evidenceNumber
+  evidence-other ev h = let k : length ev ≡ evidenceWords * typeCount w → ⊥ = rw types-are at h in rw (ne-eqb _ _ k)
+
+  pub evidence-right : (ev : List ℕ) → length ev ≡ evidenceWords * l .types → evidenceNumber w ev ≡ 0
+  unfolding evidenceNumber
+  evidence-right ev h = let k : length ev ≡ evidenceWords * typeCount w = rw types-are at h in rw (eq-eqb _ _ k)
 
 module _ (text w : List ℕ) (z : refusal text w ≡ 0) where
-  pub records-number : (work : List ℕ) → recordsNumber text w work ≡ workNumber w work
+  pub records-number : (work : List ℕ) → recordsNumber text w work ≡ workNumber workWords w work
   unfolding recordsNumber
   records-number work = or-next _ _ z
 
@@ -78,9 +95,17 @@ module _ (text w : List ℕ) (z : refusal text w ≡ 0) where
   unfolding cycleNumber
   cycle-row t work h = or-next _ _ z ∙ or-first _ _ h
 
-  pub cycle-work : (t : ℕ) (work : List ℕ) → rowNumber w t ≡ 0 → cycleNumber text w t work ≡ workNumber w work
+  pub cycle-work : (t : ℕ) (work : List ℕ) → rowNumber w t ≡ 0 → cycleNumber text w t work ≡ workNumber workWords w work
   unfolding cycleNumber
   cycle-work t work h = or-next _ _ z ∙ or-next _ _ h
+
+  pub judge-number : (ev : List ℕ) → judgeNumber text w ev ≡ evidenceNumber w ev
+  unfolding judgeNumber
+  judge-number ev = or-next _ _ z
+
+  pub make-number : (work : List ℕ) → makeNumber text w work ≡ workNumber evidenceWords w work
+  unfolding makeNumber
+  make-number work = or-next _ _ z
 
 -- a row whose number is 0 is a type's
 pub row-below : (w : List ℕ) (t : ℕ) → rowNumber w t ≡ 0 → t < typeCount w

@@ -1,7 +1,13 @@
--- Document 01's numbers and values for the answers of calls that write rows.
+-- Document 01's numbers and values for the answers.
 use Prim.Native.Nat.{ℕ}
 use Rattle.lhakvuni.specs.declared.answer.Answer.{Answer}
 use Rattle.lhakvuni.specs.declared.answer.Answer.the-variants.{Rows, Refused, Short}
+use Rattle.evidence.specs.declared.judged.Judged.{Judged}
+use Rattle.evidence.specs.declared.judged.Judged.the-variants.{Pass, Broken}
+use Rattle.table.specs.Layout.{none}
+use Rattle.lhakvuni.specs.declared.judging.Judgement.{Judgement}
+use Rattle.lhakvuni.specs.declared.judging.Judgement.the-variants.{Passes, Breaks}
+use Rattle.lhakvuni.specs.declared.judging.Judgement.the-variants.{Refused as Refuses}
 
 -- 0 for a success, or the refusal's number
 abbrev pub numberOf : Answer → ℕ
@@ -15,3 +21,26 @@ abbrev pub valueOf : Answer → ℕ → ℕ
 valueOf (Rows n) v = n
 valueOf (Refused k) v = v
 valueOf (Short need) v = need
+
+-- the judgement that a verdict on evidence is
+abbrev pub judgementOf : Judged → Judgement
+judgementOf Pass = Passes
+judgementOf (Broken row rule) = Breaks row rule
+
+-- 0 for evidence that was judged, or the refusal's number
+abbrev pub judgedNumber : Judgement → ℕ
+judgedNumber Passes = 0
+judgedNumber (Breaks row rule) = 0
+judgedNumber (Refuses n) = n
+
+-- the type row that breaks a rule, NONE where the evidence passes; of a refusal nothing, and a place for it that held v holds v
+abbrev pub brokenRow : Judgement → ℕ → ℕ
+brokenRow Passes v = none
+brokenRow (Breaks row rule) v = row .0
+brokenRow (Refuses n) v = v
+
+-- its lowest rule, 0 where the evidence passes
+abbrev pub brokenRule : Judgement → ℕ → ℕ
+brokenRule Passes v = 0
+brokenRule (Breaks row rule) v = rule
+brokenRule (Refuses n) v = v

@@ -3,8 +3,9 @@ use mathlib.Core.Path.{_≡_}
 use mathlib.Core.List.{List}
 use Prim.Native.Nat.{ℕ}
 use Rattle.lhakvuni.specs.declared.answer.Answer.{Answer}
-use Rattle.lhakvuni.specs.Answers.{numberOf, valueOf}
-use Rattle.lhakvuni.specs.Calls.{RecordsKept, FirstCycleKept}
+use Rattle.lhakvuni.specs.declared.judging.Judgement.{Judgement}
+use Rattle.lhakvuni.specs.Answers.{numberOf, valueOf, judgedNumber, brokenRow, brokenRule}
+use Rattle.lhakvuni.specs.Calls.{RecordsKept, FirstCycleKept, JudgedKept, EvidenceKept}
 
 pub record RecordsExported (text w work out work′ out′ : List ℕ) (value value′ number : ℕ) : Type 0 where
   pub answer : Answer
@@ -15,5 +16,18 @@ pub record RecordsExported (text w work out work′ out′ : List ℕ) (value va
 pub record FirstCycleExported (text w : List ℕ) (t : ℕ) (work out work′ out′ : List ℕ) (value value′ number : ℕ) : Type 0 where
   pub answer : Answer
   pub kept : FirstCycleKept text w t work out work′ out′ answer
+  pub returned : number ≡ numberOf answer
+  pub placed : value′ ≡ valueOf answer value
+
+pub record JudgedExported (text w ev : List ℕ) (row row′ rule rule′ number : ℕ) : Type 0 where
+  pub answer : Judgement
+  pub kept : JudgedKept text w ev answer
+  pub returned : number ≡ judgedNumber answer
+  pub row-placed : row′ ≡ brokenRow answer row
+  pub rule-placed : rule′ ≡ brokenRule answer rule
+
+pub record EvidenceExported (text w work out work′ out′ : List ℕ) (value value′ number : ℕ) : Type 0 where
+  pub answer : Answer
+  pub kept : EvidenceKept text w work out work′ out′ answer
   pub returned : number ≡ numberOf answer
   pub placed : value′ ≡ valueOf answer value

@@ -9,8 +9,13 @@ pub mod answer;
 pub mod c;
 pub mod calls;
 pub mod cycles;
+pub mod judging;
+pub mod making;
 
 pub use answer::Answer;
 pub use calls::check_table;
 pub use calls::first_cycle;
 pub use calls::records;
+pub use judging::Judgement;
+pub use judging::check_evidence;
+pub use making::make_evidence;

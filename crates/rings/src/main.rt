@@ -1,19 +1,17 @@
 // A ring of 1,024 input objects and a ladder of 1,024, each searched to the end: the first cycle of a type of the ring goes through all
 // of it, and no type of the ladder has one, though the number of ways down the ladder has more than two hundred digits.
-mod build;
-
-use build::LADDER_FIELDS;
-use build::LADDER_WORDS;
-use build::RING_FIELDS;
-use build::RING_WORDS;
-use build::Shape;
-use build::TEXT;
-use build::TYPES;
-use build::write_table;
-use build::write_text;
 use chains::cycle::clear;
 use chains::cycle::first_cycle;
 use rows::numbers::TypeRow;
+use shapes::LADDER_FIELDS;
+use shapes::LADDER_WORDS;
+use shapes::RING_FIELDS;
+use shapes::RING_WORDS;
+use shapes::Shape;
+use shapes::TEXT;
+use shapes::TYPES;
+use shapes::write_table;
+use shapes::write_text;
 use table::check::Verdict;
 use table::check::check_table;
 use table::layout::layout_of;

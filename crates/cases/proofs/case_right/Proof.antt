@@ -11,17 +11,20 @@ slice-aggregate-call-right c = sym (length-take-le _ _ (search needs))
 slice-aggregate-call-right-2 : tie.Need-slice-aggregate-call-right-2
 slice-aggregate-call-right-2 c = sym (length-take-le _ _ (search needs))
 
+slice-aggregate-call-right-3 : tie.Need-slice-aggregate-call-right-3
+slice-aggregate-call-right-3 c = sym (length-take-le _ _ (search needs))
+
 slice-relend-prefix-call-right : tie.Need-slice-relend-prefix-call-right
 slice-relend-prefix-call-right c = search needs
 
-slice-aggregate-call-right-3 : tie.Need-slice-aggregate-call-right-3
-slice-aggregate-call-right-3 c = sym (length-take-le _ _ (search needs))
+slice-aggregate-call-right-4 : tie.Need-slice-aggregate-call-right-4
+slice-aggregate-call-right-4 c = sym (length-take-le _ _ (search needs))
 
 slice-relend-prefix-call-right-2 : tie.Need-slice-relend-prefix-call-right-2
 slice-relend-prefix-call-right-2 c = search needs
 
-slice-aggregate-call-right-4 : tie.Need-slice-aggregate-call-right-4
-slice-aggregate-call-right-4 c = sym (length-take-le _ _ (search needs))
+slice-aggregate-call-right-5 : tie.Need-slice-aggregate-call-right-5
+slice-aggregate-call-right-5 c = sym (length-take-le _ _ (search needs))
 
 call-right-requires : tie.Need-call-right-requires
 call-right-requires c κs = search needs
@@ -41,10 +44,11 @@ case-right-spec =
     (tie.spec
     slice-aggregate-call-right
     slice-aggregate-call-right-2
-    slice-relend-prefix-call-right
     slice-aggregate-call-right-3
-    slice-relend-prefix-call-right-2
+    slice-relend-prefix-call-right
     slice-aggregate-call-right-4
+    slice-relend-prefix-call-right-2
+    slice-aggregate-call-right-5
     call-right-requires
     same-length
     same-length-2

@@ -1,0 +1,12 @@
+pub mod TestLaws
+pub mod Kept
+pub mod Marks
+pub mod Verdicts
+pub mod Counts
+pub mod Ways
+pub mod Unique
+pub mod CanonicalPasses
+pub mod Decide
+pub mod Exists
+pub mod ChainLaws
+pub mod Evidence

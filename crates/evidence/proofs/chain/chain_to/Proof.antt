@@ -1,0 +1,43 @@
+-- `chain_to`: each test of the definition is a branch, and a field of the type is a field of the table.
+use borrow.Author.Needs.{needs}
+use borrow.Author.Tests.{lt-ltb, le-ltb, le-leb, lt-leb}
+use native.Mathlib.Omega.{arith}
+use mathlib.Core.Path.{refl}
+use Rattle.evidence.specs.Chained.{chainTo}
+use Rattle.evidence.proofs.chain.chain_to.Statement.{statement}
+use Rattle.evidence.proofs.chain.chain_to.Tie as tie
+
+returns : tie.Need-returns
+unfolding chainTo
+returns c = rw (← c .before .fields-start .ensures, lt-leb _ _ (c .if1 .taken)) refl
+
+returns-2 : tie.Need-returns-2
+unfolding chainTo
+returns-2 c =
+    let fields-start-call = c .before .before .before .fields-start in
+    rw (← fields-start-call .ensures, le-leb _ _ (c .before .before .if1 .left), ← c .before .chains-end .ensures, le-ltb _ _ (c .if2 .taken)) refl
+
+led-to-requires : tie.Need-led-to-requires
+led-to-requires c κs =
+    let pre = c .before .before .before .before .before .pre in
+    let args = c .before .before .before .before .before .args in
+    (pre .0, omega (arith, pre .0 .inside (args .t .0) (pre .1)))
+
+returns-3 : tie.Need-returns-3
+unfolding chainTo
+returns-3 c =
+    let fields-start-call = c .before .before .before .before .fields-start in
+    let if1 = c .before .before .before .if1 in
+    let pre = c .before .before .before .before .before .before .pre in
+    rw (← fields-start-call .ensures, le-leb _ _ (if1 .left), ← c .before .before .chains-end .ensures, lt-ltb _ _ (c .before .if2 .left)) (rw (pre .0 .types) at (c .led-to .ensures))
+
+pub chain-to-spec : {M : Type 1} → statement M
+chain-to-spec =
+    tie.close
+    (tie.spec
+    (λ c κs. search needs)  -- fields-start-requires
+    returns
+    (λ c κs. search needs)  -- chains-end-requires
+    returns-2
+    led-to-requires
+    returns-3)

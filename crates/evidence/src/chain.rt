@@ -1,0 +1,80 @@
+// The chain fields of a type, and what rules 5 and 6 ask of one.
+ghost use mathlib.Core.Path.{_≡_};
+ghost use Prim.Native.Nat.{ℕ, _<_};
+ghost use Rattle.rows.specs.Types.{foundAt};
+ghost use Rattle.chains.specs.Fields.{chainTarget, chainGraph};
+ghost use Rattle.evidence.specs.Rules.{goesOut, nearer, comesIn};
+ghost use Rattle.evidence.specs.Chained.{Chained, chainTo};
+use crate::row::in_depth;
+use crate::row::leader;
+use crate::row::leads;
+use crate::row::out_distance;
+use chains::fields::chains_end;
+use chains::fields::target;
+use rows::numbers::TypeRow;
+use rows::parts::fields_start;
+use rows::types::FoundType;
+use table::layout::Layout;
+
+// The type that a field leads to, where it leads to one.
+pub fn led_to(words: &[u32], l: Layout, f: usize) -> FoundType
+    requires { ⌜ Chained (now words) l ⌝ }
+    requires { ⌜ f < l .fields ⌝ }
+    ensures { λ r. ⌜ r ≡ foundAt (chainTarget (now (words .entry)) f) (l .types) ⌝ }
+{
+    let u = target(words, l, f);
+    if u < l.types {
+        return FoundType::At(TypeRow(u as u32));
+    }
+    FoundType::Nothing
+}
+
+// The type that field f leads to as a chain field of t, where it is one. The field may be any number.
+pub fn chain_to(words: &[u32], l: Layout, t: TypeRow, f: usize) -> FoundType
+    requires { ⌜ Chained (now words) l ⌝ }
+    requires { ⌜ t .0 < l .types ⌝ }
+    ensures { λ r. ⌜ r ≡ chainTo (chainGraph (now (words .entry))) (t .0) f ⌝ }
+{
+    if f < fields_start(words, l, t) {
+        return FoundType::Nothing;
+    }
+    if chains_end(words, l, t) <= f {
+        return FoundType::Nothing;
+    }
+    led_to(words, l, f)
+}
+
+// Rule 5 of a field f.
+pub fn goes_out(words: &[u32], l: Layout, ev: &[u32], t: TypeRow, f: usize) -> bool
+    requires { ⌜ Chained (now words) l ⌝ }
+    requires { ⌜ t .0 < l .types ⌝ }
+    ensures { λ r. ⌜ r ≡ goesOut (chainGraph (now (words .entry))) (now (ev .entry)) (t .0) f ⌝ }
+{
+    let FoundType::At(u) = chain_to(words, l, t, f) else {
+        return false;
+    };
+    (leader(ev, u).0 == leader(ev, t).0)
+        & (leads(ev, t) | (out_distance(ev, u) + 1 == out_distance(ev, t)))
+}
+
+// Type s has the same leader as t, and depth one less.
+pub fn nearer(ev: &[u32], t: TypeRow, s: TypeRow) -> bool
+    ensures { λ r. ⌜ r ≡ nearer (now (ev .entry)) (t .0) (s .0) ⌝ }
+{
+    (leader(ev, s).0 == leader(ev, t).0) & (in_depth(ev, s) + 1 == in_depth(ev, t))
+}
+
+// Rule 6 of a field f of type s. The words of the two rows are looked at first, since the field's type is a search by name.
+pub fn comes_in(words: &[u32], l: Layout, ev: &[u32], t: TypeRow, f: usize, s: TypeRow) -> bool
+    requires { ⌜ Chained (now words) l ⌝ }
+    requires { ⌜ s .0 < l .types ⌝ }
+    ensures { λ r. ⌜ r ≡ comesIn (chainGraph (now (words .entry))) (now (ev .entry)) (t .0) f (s .0) ⌝ }
+{
+    if !nearer(ev, t, s) {
+        return false;
+    }
+    let FoundType::At(u) = chain_to(words, l, s, f) else {
+        return false;
+    };
+    u.0 == t.0
+}

@@ -1,0 +1,20 @@
+-- Each verdict is its judgement.
+use borrow.Author.Needs.{needs}
+use mathlib.Core.Path.{refl}
+use Rattle.lhakvuni.proofs.judging.answer_of.Statement.{statement}
+use Rattle.lhakvuni.proofs.judging.answer_of.Tie as tie
+
+enum-told : tie.Need-enum-told
+enum-told c = search needs
+
+enum-known-verdict : tie.Need-enum-known-verdict
+enum-known-verdict c = search needs
+
+returns : tie.Need-returns
+returns c = search needs
+
+returns-2 : tie.Need-returns-2
+returns-2 c = rw (c .before .verdict .given .1) refl
+
+pub answer-of-spec : {M : Type 1} → statement M
+answer-of-spec = tie.close (tie.spec enum-told enum-known-verdict returns returns-2)

@@ -1,0 +1,221 @@
+-- The six passes one after the other leave the canonical evidence.
+use mathlib.Core.Path.{_≡_, ap, sym, subst, _∙_}
+use mathlib.Core.Logic.{⊎-elim, _≢_}
+use mathlib.Core.List.{List, _++_}
+use Prim.Native.Nat.{ℕ, zero, _+_, _*_, _-_, _≤_, _<_}
+use native.Mathlib.Omega.{arith}
+use lib.ListN.{length, getD, take, drop, replicate, length-take}
+use lib.Seq.{getD-take, getD-drop, drop-drop}
+use Rattle.chains.specs.Chains.{Graph}
+use Rattle.table.specs.declared.layout.Layout.{Layout}
+use Rattle.table.specs.Layout.{none, typeCount}
+use Rattle.evidence.specs.Words.{evidenceWords, number, leader, outField, outDistance, inField, inDepth}
+use Rattle.evidence.specs.Canonical.{Marks, Marks.on, Marks.off, Row, Canonical}
+use Rattle.producer.specs.Search.{Clear, Cleared}
+use Rattle.producer.specs.Produced.{Filled, NumberIs, LeaderIs, DistanceIs, DepthIs, OutIs, InIs, Numbered, Measured, Filling, Ranked, Leveled, Whole, Passed, Rooms, Made}
+use Rattle.rows.specs.Readable.{SoundRows}
+use Rattle.evidence.proofs.ChainLaws.{chained}
+use Rattle.evidence.proofs.TestLaws.{same-or-not, below-or-not}
+use Rattle.evidence.proofs.Unique.{Agree, agree-back}
+use Rattle.producer.proofs.Reach.{zeros-cleared}
+use Rattle.producer.proofs.PassLaws.{led-on, led-off, led-kept, numbered-kept, leader-kept, word-as, cleared-join}
+use Rattle.producer.proofs.ChoiceLaws.{word-none, word-some, measured-kept, column-agree, out-as, in-as}
+
+module _ (g : Graph) where
+  -- a pass over every row
+  abbrev Pass : ℕ → (ℕ → ℕ → Type 0) → List ℕ → List ℕ → Type 0
+  Pass c Is W X = Filled c (g .types) (g .types) Is W X
+
+  -- after the first pass the numbers are right
+  pub numbered : {W X : List ℕ} → Pass 0 (NumberIs g) W X → Numbered g X
+  numbered f t l = f .words t l
+
+  -- after the second, so are the leaders
+  pub ranked : {O X Y W W′ W″ : List ℕ} → Pass 0 (NumberIs g) O X → Pass 1 (LeaderIs g) X Y → Cleared (2 * g .types) W W′ → Cleared (2 * g .types) W′ W″
+      → Passed (g .types) (Ranked g) O Y W W″
+  ranked f₀ f₁ c d =
+      record {
+        right = record { numbers = numbered-kept g (f₁ .column) (omega arith) (numbered f₀); leaders = f₁ .words };
+        size = f₁ .column .size ∙ f₀ .column .size;
+        rest = f₁ .column .rest ∙ f₀ .column .rest;
+        cleared = cleared-join c d;
+      }
+
+  -- with the leaders, distances and depths
+  pub leveled : {O X Y W W′ W″ : List ℕ} → Ranked g O → Pass 3 (DistanceIs g O) O X → Pass 5 (DepthIs g X) X Y → Cleared (2 * g .types) W W′ → Cleared (2 * g .types) W′ W″
+      → Passed (g .types) (Leveled g) O Y W W″
+  leveled {O} {X} {Y} h f₃ f₅ c d =
+      record {
+        right = record {
+          numbers = numbered-kept g (f₅ .column) (omega arith) (numbered-kept g (f₃ .column) (omega arith) (h .numbers));
+          measured = record {
+            leaders = led-kept g (f₅ .column) (omega arith) (led-kept g (f₃ .column) (omega arith) (h .leaders));
+            distances = λ t l.
+                let e : leader Y t ≡ leader O t = leader-kept g (f₅ .column) (omega arith) t ∙ leader-kept g (f₃ .column) (omega arith) t in
+                rw (f₅ .column .others t 3 (omega arith) (omega arith)) (word-as (sym e) (λ p. rw e p) (f₃ .words t l));
+            depths = λ t l.
+                let e : leader Y t ≡ leader X t = leader-kept g (f₅ .column) (omega arith) t in
+                word-as (sym e) (λ p. rw e p) (f₅ .words t l);
+          };
+        };
+        size = f₅ .column .size ∙ f₃ .column .size;
+        rest = f₅ .column .rest ∙ f₃ .column .rest;
+        cleared = cleared-join c d;
+      }
+
+  -- a row from its words
+  row-of : (ev : List ℕ) (t : ℕ) → g .types ≤ none → NumberIs g t (number ev t) → LeaderIs g t (leader ev t) → DistanceIs g ev t (outDistance ev t)
+      → DepthIs g ev t (inDepth ev t) → OutIs g ev t (outField ev t) → InIs g ev t (inField ev t) → Row g ev t
+  row-of ev t small n h d p o i = record { number-word = n; marks = ⊎-elim none-row some-row (same-or-not (leader ev t) none) }
+    where
+      none-row : leader ev t ≡ none → Marks g ev t
+      none-row e =
+          off
+          (record {
+            not-closed = led-off g small h e;
+            leader-none = e;
+            out-none = word-none o e;
+            distance-none = word-none d e;
+            in-none = word-none i e;
+            depth-none = word-none p e;
+          })
+
+      some-row : leader ev t ≢ none → Marks g ev t
+      some-row m =
+          let (c, l) = led-on g h m in
+          on
+          (record {
+            closed = c;
+            leader-word = l;
+            distance-word = word-some d m;
+            depth-word = word-some p m;
+            out-word = word-some o m;
+            in-none = word-some i m .0;
+            in-word = word-some i m .1;
+          })
+
+  module _ (Z U W : List ℕ) (small : g .types ≤ none) (room : evidenceWords * g .types ≤ length W) (numbers : Numbered g Z) (m : Measured g Z)
+      (f₂ : Pass 2 (OutIs g Z) Z U) (f₄ : Pass 4 (InIs g U) U W) where
+    ev : List ℕ
+    ev = take (evidenceWords * g .types) W
+
+    -- the words of the front
+    at : (t d : ℕ) → t < g .types → d < evidenceWords → getD ev (evidenceWords * t + d) 0 ≡ getD W (evidenceWords * t + d) 0
+    unfolding ev
+    at t d l b = getD-take (evidenceWords * g .types) W (evidenceWords * t + d) 0 (omega arith)
+
+    -- so the front agrees with the whole
+    front : Agree (g .types) W ev
+    front =
+        record {
+          leaders = λ t l. sym (at t 1 l (omega arith));
+          distances = λ t l. sym (at t 3 l (omega arith));
+          depths = λ t l. sym (at t 5 l (omega arith));
+        }
+
+    -- the passes over the fields change no measure
+    from-Z : Agree (g .types) U Z
+    from-Z = column-agree g (f₂ .column) (omega arith) (omega arith) (omega arith)
+
+    from-U : Agree (g .types) W U
+    from-U = column-agree g (f₄ .column) (omega arith) (omega arith) (omega arith)
+
+    -- what was right is right at the end
+    numbers-W : Numbered g W
+    numbers-W = numbered-kept g (f₄ .column) (omega arith) (numbered-kept g (f₂ .column) (omega arith) numbers)
+
+    measured-W : Measured g W
+    measured-W = measured-kept g (f₄ .column) (omega arith) (omega arith) (omega arith) (measured-kept g (f₂ .column) (omega arith) (omega arith) (omega arith) m)
+
+    -- the fields, read at the end
+    out-word : (t : ℕ) → t < g .types → OutIs g ev t (outField ev t)
+    out-word t l =
+        rw (at t 2 l (omega arith), f₄ .column .others t 2 (omega arith) (omega arith))
+        (out-as g front t _ l (out-as g (agree-back from-U) t _ l (out-as g (agree-back from-Z) t _ l (f₂ .words t l))))
+
+    in-word : (t : ℕ) → t < g .types → InIs g ev t (inField ev t)
+    in-word t l = rw (at t 4 l (omega arith)) (in-as g front t _ l (in-as g (agree-back from-U) t _ l (f₄ .words t l)))
+
+    -- every row
+    row : (t : ℕ) → t < g .types → Row g ev t
+    row t l =
+        let e = at t 1 l (omega arith) in
+        row-of ev t small
+        (rw (at t 0 l (omega arith)) (numbers-W t l))
+        (rw e (measured-W .leaders t l))
+        (rw (at t 3 l (omega arith)) (word-as (sym e) (λ p. rw e p) (measured-W .distances t l)))
+        (rw (at t 5 l (omega arith)) (word-as (sym e) (λ p. rw e p) (measured-W .depths t l)))
+        (out-word t l)
+        (in-word t l)
+
+    -- the size
+    ev-size : length ev ≡ evidenceWords * g .types
+    unfolding ev
+    ev-size = length-take (evidenceWords * g .types) W ∙ omega arith
+
+    -- the theorem
+    pub assembled : Canonical g (take (evidenceWords * g .types) W)
+    unfolding ev
+    assembled = record { size = ev-size; row = row }
+
+-- the front of the work space that the passes use is the front of a longer one that was cleared
+pub cleared-wide : {a b : ℕ} {W X Y : List ℕ} → a ≤ b → Cleared b W X → Cleared a X Y → Cleared b W Y
+cleared-wide {a} {b} {W} {X} {Y} l c d =
+    let s = d .size in
+    let back : a + (b - a) ≡ b = omega arith in
+    record {
+      clear = record {
+        room = let r = c .clear .room in omega arith;
+        zero = λ i k.
+            ⊎-elim
+            (λ (x : i < a). d .clear .zero i x)
+            (λ x.
+            let e : a + (i - a) ≡ i = omega arith in
+            let y : getD Y i 0 ≡ getD X i 0 = subst (λ (j : ℕ). getD Y j 0 ≡ getD X j 0) e (sym (getD-drop a Y (i - a) 0) ∙ ap (λ (z : List ℕ). getD z (i - a) 0) (d .rest) ∙ getD-drop a X (i - a) 0) in
+            y ∙ c .clear .zero i k)
+            (below-or-not i a);
+      };
+      size = s ∙ c .size;
+      rest = subst (λ (j : ℕ). drop j Y ≡ drop j X) back (sym (drop-drop (b - a) a Y) ∙ ap (drop (b - a)) (d .rest) ∙ drop-drop (b - a) a X) ∙ c .rest;
+    }
+
+-- a part of what is clear is clear
+pub clear-fewer : {a b : ℕ} {W : List ℕ} → a ≤ b → Clear b W → Clear a W
+clear-fewer l c = let r = c .room in record { room = omega arith; zero = λ i k. c .zero i (omega arith) }
+
+-- with all of these, the fields
+pub fitted : (g : Graph) {O X Y W W′ W″ : List ℕ} → g .types ≤ none → evidenceWords * g .types ≤ length O → Leveled g O
+    → Filled 2 (g .types) (g .types) (OutIs g O) O X → Filled 4 (g .types) (g .types) (InIs g X) X Y
+    → Cleared (2 * g .types) W W′ → Cleared (2 * g .types) W′ W″ → Passed (g .types) (Whole g) O Y W W″
+fitted g {O} {X} {Y} few room h f₂ f₄ c d =
+    let size : length Y ≡ length O = f₄ .column .size ∙ f₂ .column .size in
+    record {
+      right = assembled g O X Y few (omega arith) (h .numbers) (h .measured) f₂ f₄;
+      size = size;
+      rest = f₄ .column .rest ∙ f₂ .column .rest;
+      cleared = cleared-join c d;
+    }
+
+-- the words that the code cleared
+pub cleared-first : {w : List ℕ} {l : Layout} {O W Y : List ℕ} → SoundRows w l → Rooms (typeCount w) W O
+    → Y ≡ replicate (evidenceWords * l .types) 0 ++ drop (evidenceWords * l .types) W → Cleared (evidenceWords * typeCount w) W Y
+cleared-first {w} {l} {O} {W} s r e = rw (e, chained s .types) (zeros-cleared (evidenceWords * typeCount w) W (r .work-room))
+
+-- the passes may begin there
+pub filling-first : {w : List ℕ} {l : Layout} {O W Y : List ℕ} → SoundRows w l → Rooms (typeCount w) W O
+    → Y ≡ replicate (evidenceWords * l .types) 0 ++ drop (evidenceWords * l .types) W → Filling w l Y O
+filling-first s r e = record { chained = chained s; clear = clear-fewer (omega arith) (cleared-first s r e .clear); room = r .out-room }
+
+-- and leave room for the next
+pub filling-after : {w : List ℕ} {l : Layout} {Right : List ℕ → Type 0} {O X W Y : List ℕ} → Filling w l W O → Passed (typeCount w) Right O X W Y → Filling w l Y X
+filling-after f p = let e = p .size in let r = f .room in record { chained = f .chained; clear = p .cleared .clear; room = omega arith }
+
+-- the same after one pass
+pub filling-next : {w : List ℕ} {l : Layout} {c : ℕ} {Is : ℕ → ℕ → Type 0} {O X W Y : List ℕ} → Filling w l W O
+    → Filled c (typeCount w) (typeCount w) Is O X → Cleared (2 * typeCount w) W Y → Filling w l Y X
+filling-next f p c = let e = p .column .size in let r = f .room in record { chained = f .chained; clear = c .clear; room = omega arith }
+
+-- one after the other they make the table
+pub made : (g : Graph) {A B : List ℕ → Type 0} {O X Y Z W W′ W″ W‴ : List ℕ} → Passed (g .types) A O X W W′ → Passed (g .types) B X Y W′ W″
+    → Passed (g .types) (Whole g) Y Z W″ W‴ → Made g O Z
+made g a b c = record { canonical = c .right; size = c .size ∙ b .size ∙ a .size; rest = c .rest ∙ b .rest ∙ a .rest }

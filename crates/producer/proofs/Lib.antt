@@ -1,0 +1,7 @@
+pub mod Reach
+pub mod Levels
+pub mod PassLaws
+pub mod ChoiceLaws
+pub mod KnownLaws
+pub mod Assemble
+pub mod Output

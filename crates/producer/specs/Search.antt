@@ -1,0 +1,73 @@
+-- The search for the types that chain fields reach from a type, step by step: what the functions that search promise each other.
+--
+-- W is the work words: type u is marked where word u is not 0, which is then its level, the number of fields on the way to it. The
+-- marked types are listed from word `types` on, n of them.
+use mathlib.Core.Path.{_≡_}
+use mathlib.Core.Logic.{_⊎_, _≢_, _↔_}
+use mathlib.Core.List.{List}
+use Prim.Native.Nat.{ℕ, _+_, _*_, _≤_, _<_}
+use lib.ListN.{length, getD, drop}
+use Rattle.chains.specs.Chains.{Graph, Chain}
+use Rattle.evidence.specs.Reaches.{Reaches}
+use Rattle.evidence.specs.Canonical.{Count, Least, Way}
+
+-- type u is marked
+abbrev pub MarkedIn : List ℕ → ℕ → Type 0
+MarkedIn W u = getD W u 0 ≢ 0
+
+-- n types are marked, and those are listed
+pub record Listed (types : ℕ) (W : List ℕ) (n : ℕ) : Type 0 where
+  pub room : 2 * types ≤ length W
+  pub count : Count (MarkedIn W) types n
+  pub listed : (u : ℕ) → u < types → MarkedIn W u → (i : ℕ) × (i < n) × (getD W (types + i) 0 ≡ u)
+  pub types-only : (i : ℕ) → i < n → getD W (types + i) 0 < types
+  pub marked : (i : ℕ) → i < n → MarkedIn W (getD W (types + i) 0)
+
+-- a type may be marked at level k, behind the n that are listed
+pub record Entering (types k : ℕ) (W : List ℕ) (n : ℕ) : Type 0 where
+  pub listed : Listed types W n
+  pub some : 0 < k
+
+-- more types may be marked and listed behind those that were, and all else is as it was
+pub record Grown (types : ℕ) (W : List ℕ) (n : ℕ) (X : List ℕ) (m : ℕ) : Type 0 where
+  pub listed : Listed types X m
+  pub more : n ≤ m
+  pub same : (i : ℕ) → i < n → getD X (types + i) 0 ≡ getD W (types + i) 0
+  pub kept : (u : ℕ) → u < types → MarkedIn W u → getD X u 0 ≡ getD W u 0
+  pub size : length X ≡ length W
+  pub rest : drop (2 * types) X ≡ drop (2 * types) W
+
+module _ (g : Graph) where
+  -- where field f leads to a type, that one is marked, at level k if it was not, and no other that was not
+  pub record Entered (f k : ℕ) (W : List ℕ) (n : ℕ) (X : List ℕ) (m : ℕ) : Type 0 where
+    pub grown : Grown (g .types) W n X m
+    pub led : g .next f < g .types → MarkedIn X (g .next f)
+    pub only : (u : ℕ) → u < g .types → MarkedIn X u → MarkedIn W u ⊎ ((g .next f ≡ u) × (getD X u 0 ≡ k))
+    pub new : (i : ℕ) → n ≤ i → i < m → getD X (getD X (g .types + i) 0) 0 ≡ k
+
+  -- the types that the chain fields of s below f lead to are marked, at level k if they were not, and no others that were not
+  pub record Visited (s f k : ℕ) (W : List ℕ) (n : ℕ) (X : List ℕ) (m : ℕ) : Type 0 where
+    pub grown : Grown (g .types) W n X m
+    pub led : (h u : ℕ) → h < f → Chain g s h u → MarkedIn X u
+    pub only : (u : ℕ) → u < g .types → MarkedIn X u → MarkedIn W u ⊎ ((h : ℕ) × Chain g s h u × (getD X u 0 ≡ k))
+    pub new : (i : ℕ) → n ≤ i → i < m → getD X (getD X (g .types + i) 0) 0 ≡ k
+
+  -- the types that chain fields reach from t are marked, n of them, and no others; the level of another type is its shortest distance
+  -- from t; the words behind two for each type are as they were
+  pub record Searched (t : ℕ) (W X : List ℕ) (n : ℕ) : Type 0 where
+    pub marks : (u : ℕ) → u < g .types → MarkedIn X u ↔ Reaches g t u
+    pub count : Count (Reaches g t) (g .types) n
+    pub level : (u : ℕ) → u < g .types → MarkedIn X u → u ≢ t → Least (λ k. Way g u k t) (getD X u 0)
+    pub size : length X ≡ length W
+    pub rest : drop (2 * g .types) X ≡ drop (2 * g .types) W
+
+-- the first n words are 0
+pub record Clear (n : ℕ) (W : List ℕ) : Type 0 where
+  pub room : n ≤ length W
+  pub zero : (i : ℕ) → i < n → getD W i 0 ≡ 0
+
+-- the first n words were set to 0, and the rest is as it was
+pub record Cleared (n : ℕ) (W X : List ℕ) : Type 0 where
+  pub clear : Clear n X
+  pub size : length X ≡ length W
+  pub rest : drop n X ≡ drop n W

@@ -35,6 +35,9 @@ UNDEFINED_NAMES = "Missing Q QQ Ints int String_".split()
 # Built-in scalars' names for rows of any kind. Few of the two that the Rust's own directives use: if one of these is no
 # input type, the Rust says so of the directives, and document 01 has no record for that.
 SCALAR_ROWS = "ID ID ID Int Int Int Float Float Float Boolean String".split()
+# No input object has one of those two names: the Rust walks its directives' argument types with no guard on types of the
+# built-in file, so such a row with flag 1 that leads back to itself overflows its stack.
+NO_INPUT_ROWS = ("Boolean", "String")
 
 # The Rust walks an input object anew from each field that leads to it, so its steps can grow beyond measure; a table
 # takes no more than this.
@@ -101,6 +104,8 @@ class Maker:
             name = self.rng.choice(RESERVED_NAMES)
         elif self.scalar_rows and self.chance(0.3):
             name = self.rng.choice(SCALAR_ROWS)
+            if kind == INPUT and name in NO_INPUT_ROWS:
+                name = "ID"
         if name is None or name in self.defined:
             name = self.names.pop() if self.names else "T%d" % len(self.types)
         t = Type(name, kind)

@@ -1,5 +1,11 @@
-// A type against the interfaces that it names: the comparison of field types, and the rules 3, 6 and 8 to 13 over edges. The definitions stand
-// in the crate `rules`, with the leaves; what a rule handed in lists is in specs/Rules.antt.
+// A type against the interfaces that it names: records 3 at edges, 6, 8 to 13.
+//
+// The problem: a type that has dropped an argument which its interface demands once showed somebody else's board. Each edge of a type, each
+// field of that edge's interface and each argument of that field must be held against the type's own.
+// The idea: document 01 asks five loops over the edges, one after the other, and three of them go on over the interface's fields. One
+// loop over edges and one over interface fields serve them all: the rule is handed in as an enum, and specs/Rules.antt says what each lists.
+// The comparison of two field types (field_types.rt) stands apart from its callers: one layer per call, the list layers left falling,
+// then the names. The definitions of the lists stand in the crate `rules`.
 pub mod field_types;
 pub mod implementation_argument;
 pub mod implementation_field;

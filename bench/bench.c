@@ -1,0 +1,169 @@
+/* Times the library's calls on generated tables: every count near its limit; input objects with eight chain fields each; a ring. Each family
+ * comes in three sizes, n, 2n and 4n, the last at document 01's limits, so that growth shows. It prints a line of Markdown for each. */
+#include <stdint.h>
+#include <stdio.h>
+#include <stdlib.h>
+#include <string.h>
+#include <time.h>
+
+#include "lhakvuni.h"
+
+enum { MOST_WORDS = 140000, MOST_OUT = 40000000, MOST_WORK = 6144 };
+
+static uint8_t text[65536];
+static uint32_t words[MOST_WORDS];
+static uint32_t work[MOST_WORK];
+static uint32_t *out;
+static uint32_t evidence[MOST_WORK];
+
+typedef struct { uint32_t names, types, edges, fields, arguments, members, values; } counts;
+
+/* Four letters a name, so that names rise with their numbers. */
+static void write_names(uint32_t n) {
+    for (uint32_t i = 0; i < n; i++) {
+        text[4 * i] = 'N';
+        text[4 * i + 1] = 'A' + i / 256 % 16;
+        text[4 * i + 2] = 'A' + i / 16 % 16;
+        text[4 * i + 3] = 'A' + i % 16;
+        words[7 + 2 * i] = 4 * i;
+        words[7 + 2 * i + 1] = 4;
+    }
+}
+
+static size_t header(counts c) {
+    uint32_t h[7] = {c.names, c.types, c.edges, c.fields, c.arguments, c.members, c.values};
+    memcpy(words, h, sizeof h);
+    write_names(c.names);
+    return 7 + 2 * (size_t)c.names;
+}
+
+/* A row of the type section; the ends are those of the rows before it plus its own. */
+static uint32_t ends[4];
+static size_t type_row(size_t at, uint32_t name, uint32_t kind, uint32_t e, uint32_t f, uint32_t m, uint32_t v) {
+    ends[0] += e; ends[1] += f; ends[2] += m; ends[3] += v;
+    uint32_t row[7] = {name, kind, 0, ends[0], ends[1], ends[2], ends[3]};
+    memcpy(words + at, row, sizeof row);
+    return at + 7;
+}
+
+/* Every count at size / 4 of its limit: a quarter each of interfaces, objects that implement them, and of the rest unions, enums and
+ * input objects. Fields name objects, arguments input objects. */
+static size_t limits(uint32_t size) {
+    uint32_t t = 256 * size, q = t / 4;
+    counts c = {1024 * size, t, 1024 * size, 2048 * size, 4096 * size, 1024 * size, 1024 * size};
+    size_t at = header(c);
+    uint32_t fields = c.fields / (3 * q), left = c.fields - fields * 3 * q;
+    memset(ends, 0, sizeof ends);
+    for (uint32_t i = 0; i < t; i++) {
+        uint32_t k = i / q;
+        uint32_t f = fields + (i == t - 1 ? left : 0);
+        if (k == 0) at = type_row(at, i, 2, 0, f, 0, 0);
+        else if (k == 1) at = type_row(at, i, 1, c.edges / q, f, 0, 0);
+        else if (k == 2) at = i % 2 ? type_row(at, i, 3, 0, 0, c.members / (q / 2), 0) : type_row(at, i, 4, 0, 0, 0, c.values / (q / 2));
+        else at = type_row(at, i, 5, 0, f, 0, 0);
+    }
+    for (uint32_t o = 0; o < q; o++)
+        for (uint32_t e = 0; e < c.edges / q; e++) words[at++] = (o + e) % q;
+    uint32_t owned = 0, arguments = c.arguments / (2 * q * fields), f = 0;
+    for (uint32_t i = 0; i < t; i++) {
+        uint32_t k = i / q;
+        if (k == 2) continue;
+        for (uint32_t j = 0; j < fields + (i == t - 1 ? left : 0); j++, f++) {
+            uint32_t last = k == 1 && i == 2 * q - 1 && j == fields - 1;
+            owned += k < 2 ? (last ? c.arguments - owned : arguments) : 0;
+            uint32_t row[5] = {t + j, k == 3 ? 3 * q + (i + 1 + j) % q : q + (i + j) % q, k == 3 ? 0 : 16, owned, 0};
+            memcpy(words + at, row, sizeof row);
+            at += 5;
+        }
+    }
+    for (uint32_t a = 0; a < c.arguments; a++) {
+        uint32_t row[4] = {t + a % 64, 3 * q + a % q, 0, 0};
+        memcpy(words + at, row, sizeof row);
+        at += 4;
+    }
+    for (uint32_t m = 0; m < c.members; m++) words[at++] = q + m % q;
+    for (uint32_t v = 0; v < c.values; v++) words[at++] = t + v % 512;
+    words[at++] = q; words[at++] = LV_NONE; words[at++] = LV_NONE;
+    return at;
+}
+
+/* Input objects with eight chain fields each to the types behind them; with `ring`, one field each to the next, and the last to the first. */
+static size_t inputs(uint32_t t, int ring) {
+    uint32_t each = ring ? 1 : 8;
+    counts c = {t + 8, t, 0, each * t, 0, 0, 0};
+    size_t at = header(c);
+    memset(ends, 0, sizeof ends);
+    for (uint32_t i = 0; i < t; i++) at = type_row(at, i, 5, 0, each, 0, 0);
+    for (uint32_t i = 0; i < t; i++)
+        for (uint32_t j = 0; j < each; j++) {
+            uint32_t to = ring ? (i + 1) % t : i + 1 + j < t ? i + 1 + j : t - 1;
+            uint32_t row[5] = {t + j, to, !ring && to == i ? 0 : 16, 0, 0};
+            memcpy(words + at, row, sizeof row);
+            at += 5;
+        }
+    words[at++] = LV_NONE; words[at++] = LV_NONE; words[at++] = LV_NONE;
+    return at;
+}
+
+static double now(void) {
+    struct timespec t;
+    clock_gettime(CLOCK_MONOTONIC, &t);
+    return t.tv_sec + t.tv_nsec / 1e9;
+}
+
+/* The row whose first cycle is asked for: an input object. */
+static uint32_t cycle_row;
+typedef uint32_t (*call)(size_t, size_t, uint64_t *);
+static uint32_t table(size_t b, size_t w, uint64_t *v) { (void)v; return lv_check_table(text, b, words, w); }
+static uint32_t records(size_t b, size_t w, uint64_t *v) { return lv_records(text, b, words, w, work, MOST_WORK, out, MOST_OUT, v); }
+static uint32_t cycle(size_t b, size_t w, uint64_t *v) { return lv_first_cycle(text, b, words, w, cycle_row, work, MOST_WORK, out, MOST_OUT, v); }
+static uint32_t make(size_t b, size_t w, uint64_t *v) { return lv_make_evidence(text, b, words, w, work, MOST_WORK, evidence, MOST_WORK, v); }
+static uint32_t judge(size_t b, size_t w, uint64_t *v) {
+    uint32_t row = 0, rule = 0, n = lv_check_evidence(text, b, words, w, evidence, 6 * words[1], &row, &rule);
+    *v = rule;
+    return n;
+}
+
+/* The least time of some runs, for at least a tenth of a second or once. */
+static double best(call f, size_t bytes, size_t n, uint64_t *value) {
+    double least = 1e9, begun = now();
+    do {
+        double t = now();
+        uint32_t r = f(bytes, n, value);
+        if (r != 0) { fprintf(stderr, "refused by %u\n", r); exit(1); }
+        if (now() - t < least) least = now() - t;
+    } while (now() - begun < 0.1);
+    return least;
+}
+
+static const char *calls[] = {"check_table", "records", "first_cycle", "make_evidence", "check_evidence"};
+static const call functions[] = {table, records, cycle, make, judge};
+
+static void family(const char *name, int which, const uint32_t sizes[3]) {
+    double times[5][3];
+    size_t lengths[3];
+    uint64_t values[5];
+    for (int s = 0; s < 3; s++) {
+        size_t n = which == 0 ? limits(sizes[s]) : inputs(sizes[s], which == 2);
+        lengths[s] = n;
+        cycle_row = which == 0 ? words[1] - 1 : 0;
+        for (int k = 0; k < 5; k++) {
+            times[k][s] = best(functions[k], 4 * (size_t)words[0], n, &values[k]);
+            fprintf(stderr, "%s %zu words, %s: %.3f ms\n", name, n, calls[k], times[k][s] * 1e3);
+        }
+    }
+    for (int k = 0; k < 5; k++)
+        printf("| %s | `%s` | %.3f | %.3f | %.3f | %.1f | %.1f | %.1f | %llu |\n", name, calls[k], times[k][0] * 1e3, times[k][1] * 1e3,
+               times[k][2] * 1e3, times[k][2] * 1e9 / lengths[2], times[k][1] / times[k][0], times[k][2] / times[k][1],
+               (unsigned long long)values[k]);
+}
+
+int main(void) {
+    out = malloc(MOST_OUT * sizeof *out);
+    if (!out) return 1;
+    const uint32_t limit_sizes[3] = {1, 2, 4}, input_sizes[3] = {256, 512, 1024};
+    family("every count near its limit", 0, limit_sizes);
+    family("input objects, eight chain fields each", 1, input_sizes);
+    family("a ring of input objects", 2, input_sizes);
+    return 0;
+}

@@ -1,0 +1,4 @@
+pub mod OrderLaws
+mod RankLaws
+mod InsertLaws
+mod LookupLaws

@@ -1,0 +1,3 @@
+pub mod Order
+pub mod Rank
+pub mod Examples

@@ -1,0 +1,28 @@
+// A type by its name, from the order of the type rows.
+ghost use mathlib.Core.Path.{_≡_};
+ghost use Rattle.table.specs.Layout.{Laid};
+ghost use Rattle.rows.specs.Types.{typeNamed, foundAt};
+ghost use Rattle.order.specs.Order.{Ordered};
+use crate::rank::rank_of;
+use rows::numbers::NameNo;
+use rows::numbers::TypeRow;
+use rows::types::FoundType;
+use rows::types::type_name;
+use table::layout::Layout;
+
+// The type of the name: it can only stand at the name's rank.
+pub fn find_ordered(words: &[u32], l: Layout, order: &[u32], name: NameNo) -> FoundType
+    requires { ⌜ Laid (now words) l ⌝ }
+    requires { ⌜ Ordered (now words) (l .types) (now order) ⌝ }
+    ensures { λ r. ⌜ r ≡ foundAt (typeNamed (now (words .entry)) (name .0)) (l .types) ⌝ }
+{
+    let at = rank_of(words, l, order, l.types, name);
+    if at == l.types {
+        return FoundType::Nothing;
+    }
+    let row = TypeRow(order[at]);
+    if type_name(words, l, row).0 == name.0 {
+        return FoundType::At(row);
+    }
+    FoundType::Nothing
+}

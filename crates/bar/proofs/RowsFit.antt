@@ -20,9 +20,9 @@ use Rattle.lhakvuni.specs.Calls.{recordsNumber, RecordsKept}
 output-fits : (rows : ℕ) (words out out′ : List ℕ) (a : Answer) (n : ℕ) → Output rows words out out′ a → a ≡ Rows n → (n ≡ rows) × (length words ≤ length out′)
 output-fits rows words out out′ a n o e =
     ⊎-elim
-    (λ b. let h : 0 ≡ 10 = ap numberOf (sym e ∙ o .short (ltb-true (length out) (length words) b) .0) in absurd (omega arith))
+    (λ b. let h : _≡_ {A = ℕ} 0 10 = sym (ap numberOf e) ∙ o .short (ltb-true (length out) (length words) b) .0 .number-is in absurd (omega arith))
     (λ b. let d = o .done (ltb-false (length out) (length words) b) in
-    (ap (λ (x : Answer). valueOf x 0) (sym e ∙ d .0), omega (arith, ap length (d .1), length-append words (drop (length words) out))))
+    (sym (ap (λ (x : Answer). valueOf x 0) e) ∙ d .0 .value-is 0, omega (arith, ap length (d .1), length-append words (drop (length words) out))))
     (decide (ltb (length out) (length words)))
 
 pub rows-fit : (text w work out work′ out′ : List ℕ) (a : Answer) (n : ℕ) → RecordsKept text w work out work′ out′ a → a ≡ Rows n → 5 * n ≤ length out′
@@ -31,5 +31,5 @@ rows-fit text w work out work′ out′ a n k e =
     (λ b. let f = output-fits (length (k .rows)) (flat (k .rows)) out out′ a n (k .promise .given (eqb-true (recordsNumber text w work) 0 b) .0) e in
     omega (arith, f .0, f .1, flat-length (k .rows)))
     (λ b. let z = eqb-false (recordsNumber text w work) 0 b in
-    absurd (z (sym (ap numberOf (sym e ∙ k .promise .refused z .0)))))
+    absurd (z (sym (sym (ap numberOf e) ∙ k .promise .refused z .0 .number-is))))
     (decide (eqb (recordsNumber text w work) 0))

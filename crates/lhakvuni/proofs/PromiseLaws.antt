@@ -10,18 +10,37 @@ use borrow.Author.Tests.{eqb-true, eqb-false, ltb-true, ltb-false}
 use Rattle.names.proofs.BoolLaws.{decide}
 use Rattle.lhakvuni.specs.declared.answer.Answer.{Answer}
 use Rattle.lhakvuni.specs.declared.answer.Answer.the-variants.{Rows, Refused, Short}
+use Rattle.lhakvuni.specs.Answers.{Returned}
 use Rattle.lhakvuni.specs.Promise.{Output, Promised}
 
+returned-short : (a : Answer) (n : ℕ) → a ≡ Short n → Returned a 10 (λ _. n)
+returned-short a n e = rw e record { number-is = refl; value-is = λ v. refl }
+
+returned-rows : (a : Answer) (n : ℕ) → a ≡ Rows n → Returned a 0 (λ _. n)
+returned-rows a n e = rw e record { number-is = refl; value-is = λ v. refl }
+
+-- a number and a value belong to one answer: a refusal but 10 has no value of its own
+pub returned-one : (a b : Answer) (n : ℕ) (f : ℕ → ℕ) → Returned a n f → Returned b n f → a ≡ b
+returned-one (Rows x) (Rows y) n f p q = ap Rows (p .value-is 0 ∙ sym (q .value-is 0))
+returned-one (Rows x) (Refused k) n f p q = absurd (omega (arith, p .value-is 0, q .value-is 0, p .value-is 1, q .value-is 1))
+returned-one (Rows x) (Short y) n f p q = absurd (omega (arith, p .number-is, q .number-is))
+returned-one (Refused k) (Rows y) n f p q = absurd (omega (arith, p .value-is 0, q .value-is 0, p .value-is 1, q .value-is 1))
+returned-one (Refused k) (Refused j) n f p q = ap Refused (p .number-is ∙ sym (q .number-is))
+returned-one (Refused k) (Short y) n f p q = absurd (omega (arith, p .value-is 0, q .value-is 0, p .value-is 1, q .value-is 1))
+returned-one (Short x) (Rows y) n f p q = absurd (omega (arith, p .number-is, q .number-is))
+returned-one (Short x) (Refused k) n f p q = absurd (omega (arith, p .value-is 0, q .value-is 0, p .value-is 1, q .value-is 1))
+returned-one (Short x) (Short y) n f p q = ap Short (p .value-is 0 ∙ sym (q .value-is 0))
+
 pub output-short : (rows : ℕ) (words out : List ℕ) (a : Answer) → length out < length words → a ≡ Short (length words) → Output rows words out out a
-output-short rows words out a h e = record { short = λ _. (e, refl); done = λ k. absurd (omega arith) }
+output-short rows words out a h e = record { short = λ _. (returned-short a (length words) e, refl); done = λ k. absurd (omega arith) }
 
 pub output-done : (rows : ℕ) (words out out′ : List ℕ) (a : Answer) → length words ≤ length out → a ≡ Rows rows
     → out′ ≡ words ++ drop (length words) out → Output rows words out out′ a
-output-done rows words out out′ a h e f = record { short = λ k. absurd (omega arith); done = λ _. (e, f) }
+output-done rows words out out′ a h e f = record { short = λ k. absurd (omega arith); done = λ _. (returned-rows a rows e, f) }
 
 module _ (number k rows : ℕ) (words work out : List ℕ) where
   pub promise-refused : (n : ℕ) → number ≡ n → n ≢ 0 → Promised number k rows words work out work out (Refused n)
-  promise-refused n e h = record { refused = λ _. (ap Refused (sym e), (refl, refl)); given = λ z. absurd (h (sym e ∙ z)) }
+  promise-refused n e h = record { refused = λ _. (record { number-is = sym e; value-is = λ v. refl }, (refl, refl)); given = λ z. absurd (h (sym e ∙ z)) }
 
   pub promise-given : (work′ out′ : List ℕ) (a : Answer) → number ≡ 0 → Output rows words out out′ a → work′ ≡ replicate k 0 ++ drop k work
       → Promised number k rows words work out work′ out′ a
@@ -37,7 +56,7 @@ module _ (number k rows : ℕ) (words work out : List ℕ) where
       refusal n =
           let x = p .refused n in
           let y = q .refused n in
-          (x .0 ∙ sym (y .0), (x .1 .0 ∙ sym (y .1 .0), x .1 .1 ∙ sym (y .1 .1)))
+          (returned-one a₁ a₂ _ _ (x .0) (y .0), (x .1 .0 ∙ sym (y .1 .0), x .1 .1 ∙ sym (y .1 .1)))
 
       given : number ≡ 0 → (a₁ ≡ a₂) × ((w₁ ≡ w₂) × (o₁ ≡ o₂))
       given z =
@@ -47,11 +66,11 @@ module _ (number k rows : ℕ) (words work out : List ℕ) where
           (λ b. let h = ltb-true (length out) (length words) b in
           let s = x .0 .short h in
           let t = y .0 .short h in
-          (s .0 ∙ sym (t .0), (x .1 ∙ sym (y .1), s .1 ∙ sym (t .1))))
+          (returned-one a₁ a₂ _ _ (s .0) (t .0), (x .1 ∙ sym (y .1), s .1 ∙ sym (t .1))))
           (λ b. let h = ltb-false (length out) (length words) b in
           let s = x .0 .done h in
           let t = y .0 .done h in
-          (s .0 ∙ sym (t .0), (x .1 ∙ sym (y .1), s .1 ∙ sym (t .1))))
+          (returned-one a₁ a₂ _ _ (s .0) (t .0), (x .1 ∙ sym (y .1), s .1 ∙ sym (t .1))))
           (decide (ltb (length out) (length words)))
 
 -- nor does an answer depend on what the lent memory held before: it is the same for any memory of the same lengths
@@ -60,12 +79,12 @@ module _ (number k rows : ℕ) (words work out work₂ out₂ : List ℕ) (long 
   same-answer w₁ o₁ w₂ o₂ a b p q =
       ⊎-elim
       (λ z. given (eqb-true number 0 z))
-      (λ z. let n = eqb-false number 0 z in p .refused n .0 ∙ sym (q .refused n .0))
+      (λ z. let n = eqb-false number 0 z in returned-one a b _ _ (p .refused n .0) (q .refused n .0))
       (decide (eqb number 0))
     where
       given : number ≡ 0 → a ≡ b
       given z =
           ⊎-elim
-          (λ c. let h = ltb-true (length out) (length words) c in p .given z .0 .short h .0 ∙ sym (q .given z .0 .short (rw long at h) .0))
-          (λ c. let h = ltb-false (length out) (length words) c in p .given z .0 .done h .0 ∙ sym (q .given z .0 .done (rw long at h) .0))
+          (λ c. let h = ltb-true (length out) (length words) c in returned-one a b _ _ (p .given z .0 .short h .0) (q .given z .0 .short (rw long at h) .0))
+          (λ c. let h = ltb-false (length out) (length words) c in returned-one a b _ _ (p .given z .0 .done h .0) (q .given z .0 .done (rw long at h) .0))
           (decide (ltb (length out) (length words)))

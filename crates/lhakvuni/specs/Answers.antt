@@ -1,4 +1,5 @@
 -- Document 01's numbers and values for the answers.
+use mathlib.Core.Path.{_≡_}
 use Prim.Native.Nat.{ℕ}
 use Rattle.lhakvuni.specs.declared.answer.Answer.{Answer}
 use Rattle.lhakvuni.specs.declared.answer.Answer.the-variants.{Rows, Refused, Short}
@@ -21,6 +22,11 @@ abbrev pub valueOf : Answer → ℕ → ℕ
 valueOf (Rows n) v = n
 valueOf (Refused k) v = v
 valueOf (Short need) v = need
+
+-- an answer returns a number, and beside it a value: what a place that held v then holds
+pub record Returned (a : Answer) (number : ℕ) (value : ℕ → ℕ) : Type 0 where
+  pub number-is : numberOf a ≡ number
+  pub value-is : (v : ℕ) → valueOf a v ≡ value v
 
 -- the judgement that a verdict on evidence is
 abbrev pub judgementOf : Judged → Judgement

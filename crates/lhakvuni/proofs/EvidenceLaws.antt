@@ -26,8 +26,11 @@ use Rattle.lhakvuni.specs.declared.answer.Answer.{Answer}
 use Rattle.lhakvuni.specs.declared.answer.Answer.the-variants.{Rows, Short}
 use Rattle.lhakvuni.specs.declared.answer.Answer.the-variants.{Refused as Refuse}
 use Rattle.lhakvuni.specs.declared.judging.Judgement.{Judgement}
+use Rattle.lhakvuni.specs.declared.judging.Judgement.the-variants.{Passes, Breaks}
 use Rattle.lhakvuni.specs.declared.judging.Judgement.the-variants.{Refused as Refuses}
-use Rattle.lhakvuni.specs.Answers.{judgementOf}
+use Rattle.evidence.specs.declared.judged.Judged.{Judged}
+use Rattle.evidence.specs.declared.judged.Judged.the-variants.{Pass, Broken}
+use Rattle.lhakvuni.specs.Answers.{judgementOf, judgedNumber}
 use Rattle.lhakvuni.specs.Promise.{Output, Promised}
 use Rattle.lhakvuni.specs.Calls.{judgeNumber, makeNumber, workNumber, JudgedKept, EvidenceKept}
 use Rattle.lhakvuni.proofs.PromiseLaws.{output-short, output-done, promise-refused, promise-given, one-answer}
@@ -40,9 +43,18 @@ eight e = absurd (omega arith)
 nine : _≢_ {A = ℕ} 9 0
 nine e = absurd (omega arith)
 
--- the judge
+-- the judge: a verdict has the number 0, and a refusal's number is that of one answer
+judged-zero : (v : Judged) → judgedNumber (judgementOf v) ≡ 0
+judged-zero Pass = refl
+judged-zero (Broken row rule) = refl
+
+refused-is : (j : Judgement) (n : ℕ) → judgedNumber j ≡ n → n ≢ 0 → j ≡ Refuses n
+refused-is Passes n e h = absurd (h (sym e))
+refused-is (Breaks row rule) n e h = absurd (h (sym e))
+refused-is (Refuses k) n e h = ap Refuses e
+
 judge-refuse : (text w ev : List ℕ) (n : ℕ) → judgeNumber text w ev ≡ n → n ≢ 0 → JudgedKept text w ev (Refuses n)
-judge-refuse text w ev n e h = record { refused = λ _. ap Refuses (sym e); judged = λ z. absurd (h (sym e ∙ z)) }
+judge-refuse text w ev n e h = record { number-is = sym e; judged = λ z. absurd (h (sym e ∙ z)) }
 
 module _ (text w : List ℕ) (v : Verdict) (e : numberOf v ≡ refusal text w) (ev : List ℕ) where
   -- 1 to 6
@@ -57,14 +69,14 @@ module _ (text w : List ℕ) (v : Verdict) (e : numberOf v ≡ refusal text w) (
     pub judge-given : (j : Judgement) → length ev ≡ evidenceWords * l .types → j ≡ judgementOf (judgedOf w ev) → JudgedKept text w ev j
     judge-given j h r =
         let z : judgeNumber text w ev ≡ 0 = judge-number text w (accepted text w v e good l same) ev ∙ evidence-right w l same ev h in
-        record { refused = λ n. absurd (n z); judged = λ _. r }
+        record { number-is = ap judgedNumber r ∙ judged-zero (judgedOf w ev) ∙ sym z; judged = λ _. r }
 
 -- two judgements that meet the promise are equal
 pub one-judgement : (text w ev : List ℕ) (i j : Judgement) → JudgedKept text w ev i → JudgedKept text w ev j → i ≡ j
 one-judgement text w ev i j p q =
     ⊎-elim
     (λ z. let e = eqb-true (judgeNumber text w ev) 0 z in p .judged e ∙ sym (q .judged e))
-    (λ z. let n = eqb-false (judgeNumber text w ev) 0 z in p .refused n ∙ sym (q .refused n))
+    (λ z. let n = eqb-false (judgeNumber text w ev) 0 z in refused-is i _ (p .number-is) n ∙ sym (refused-is j _ (q .number-is) n))
     (decide (eqb (judgeNumber text w ev) 0))
 
 -- the evidence that was made

@@ -1,6 +1,5 @@
 -- What the calls promise: the checks of each in their order, and what it writes.
 use mathlib.Core.Path.{_≡_}
-use mathlib.Core.Logic.{_≢_}
 use mathlib.Core.Bool.{_&&_, cond}
 use mathlib.Core.List.{List}
 use Prim.Native.Nat.{ℕ, zero, suc, _*_, _<_}
@@ -18,8 +17,7 @@ use Rattle.evidence.specs.Verdict.{judgedOf}
 use Rattle.evidence.specs.Canonical.{Canonical}
 use Rattle.lhakvuni.specs.declared.answer.Answer.{Answer}
 use Rattle.lhakvuni.specs.declared.judging.Judgement.{Judgement}
-use Rattle.lhakvuni.specs.declared.judging.Judgement.the-variants.{Refused}
-use Rattle.lhakvuni.specs.Answers.{judgementOf}
+use Rattle.lhakvuni.specs.Answers.{judgementOf, judgedNumber}
 use Rattle.lhakvuni.specs.Promise.{Promised}
 
 -- a refusal, and else what follows
@@ -77,9 +75,9 @@ pub record FirstCycleKept (text w : List ℕ) (t : ℕ) (work out work′ out′
   pub first : CycleRows (chainGraph w) t rows
   pub promise : Promised (cycleNumber text w t work) (workWords * typeCount w) (length rows) rows work out work′ out′ a
 
--- what `check_evidence` promises: the refusal, or the verdict on the evidence; what is lent is only read
+-- what `check_evidence` promises: the first refusal's number, and with none the verdict on the evidence; what is lent is only read
 pub record JudgedKept (text w ev : List ℕ) (a : Judgement) : Type 0 where
-  pub refused : judgeNumber text w ev ≢ 0 → a ≡ Refused (judgeNumber text w ev)
+  pub number-is : judgedNumber a ≡ judgeNumber text w ev
   pub judged : judgeNumber text w ev ≡ 0 → a ≡ judgementOf (judgedOf w ev)
 
 -- what `make_evidence` promises: the evidence of our producer is written, six words for each type

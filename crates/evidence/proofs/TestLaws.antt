@@ -9,7 +9,8 @@ use native.Mathlib.Numerals.{add-one}
 use lib.Dec.{ltb, eqb}
 use borrow.Author.Tests.{ltb-true, ltb-false, eqb-true, eqb-false}
 use Rattle.names.proofs.BoolLaws.{or-cases, or-true}
-use Rattle.evidence.specs.Rules.{implies, any, unless}
+use Rattle.table.specs.WellFormed.{unless}
+use Rattle.evidence.specs.Rules.{implies, any}
 
 -- a disjunction by its first test, and by the second where the first fails
 pub or-first : (a b : Bool) → a ≡ true → (a || b) ≡ true

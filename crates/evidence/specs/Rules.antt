@@ -6,6 +6,7 @@ use Prim.Native.Nat.{ℕ, suc, zero, _+_, _<_}
 use lib.Dec.{leb, ltb, eqb}
 use Rattle.names.specs.Count.{every}
 use Rattle.table.specs.Layout.{none}
+use Rattle.table.specs.WellFormed.{unless}
 use Rattle.chains.specs.Chains.{Graph}
 use Rattle.evidence.specs.Words.{number, leader, outField, outDistance, inField, inDepth, marked, leads}
 
@@ -17,11 +18,6 @@ implies a b = not a || b
 unfoldable pub any : (ℕ → Bool) → ℕ → Bool
 any p zero = false
 any p (suc n) = any p n || p n
-
--- k where the test fails, and else what is left
-abbrev pub unless : Bool → ℕ → ℕ → ℕ
-unless true k rest = rest
-unless false k rest = k
 
 -- type s has the same leader as t, and depth one less
 abbrev pub nearer : List ℕ → ℕ → ℕ → Bool

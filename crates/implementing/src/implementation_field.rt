@@ -5,6 +5,7 @@ ghost use Rattle.rows.specs.Parts.{fieldRows};
 ghost use Rattle.rows.specs.Readable.{SoundRows, FieldPart};
 ghost use Rattle.rules.specs.Interface.{missingField, fieldTypeRecord, fieldArguments};
 ghost use Rattle.implementing.specs.Rules.{fieldRule};
+ghost use Rattle.table.specs.Layout.{mostFields};
 ghost use Rattle.rules.specs.Bounds.{mostOfInterfaceField, mostOfInterface};
 use crate::field_types::is_valid_implementation_field_type;
 use crate::implementation_argument::validate_implementing_arguments;
@@ -31,7 +32,7 @@ fn validate_missing_field(
     k: usize,
     out: &mut [u32],
 ) -> usize
-    requires { ⌜ (k < fieldRows (now «interface_fields»)) × («interface_first» + fieldRows (now «interface_fields») ≤ 8192) ⌝ }
+    requires { ⌜ (k < fieldRows (now «interface_fields»)) × («interface_first» + fieldRows (now «interface_fields») ≤ mostFields) ⌝ }
     ensures { λ n. ⌜ Emitted (missingField (t .0) (now (fields .entry)) e (now («interface_fields» .entry)) «interface_first» k) (now (out .entry)) (now (out .exit)) n ⌝ }
     ensures { λ n. ⌜ n ≤ 1 ⌝ }
 {

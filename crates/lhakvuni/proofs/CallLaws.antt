@@ -33,7 +33,7 @@ use Rattle.lhakvuni.proofs.NumberLaws.{types-are, records-refused, cycl
 pub listed : (text w : List ℕ) → Listed text w (listOf text w (cycleCount w))
 listed text w = record { counts = cycleCount w; right = count-right w; list = refl }
 
-nine : _≢_ {A = ℕ} 9 0
+pub nine : _≢_ {A = ℕ} 9 0
 nine e = absurd (omega arith)
 
 -- a refusal, whatever its reason

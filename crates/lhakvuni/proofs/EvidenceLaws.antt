@@ -33,15 +33,12 @@ use Rattle.evidence.specs.declared.judged.Judged.the-variants.{Pass, Broken}
 use Rattle.lhakvuni.specs.Answers.{judgementOf, judgedNumber}
 use Rattle.lhakvuni.specs.Promise.{Output, Promised}
 use Rattle.lhakvuni.specs.Calls.{judgeNumber, makeNumber, workNumber, JudgedKept, EvidenceKept}
-use Rattle.lhakvuni.proofs.PromiseLaws.{output-short, output-done, promise-refused, promise-given, one-answer}
+use Rattle.lhakvuni.proofs.PromiseLaws.{output-short, output-done, promise-refused, promise-given, one-answer, same-answer}
 use Rattle.lhakvuni.proofs.NumberLaws.{types-are, refusal-some, judge-refused, make-refused, judge-number, make-number, evidence-other, evidence-right, work-short, work-long}
-use Rattle.lhakvuni.proofs.CallLaws.{accepted}
+use Rattle.lhakvuni.proofs.CallLaws.{accepted, nine}
 
 eight : _≢_ {A = ℕ} 8 0
 eight e = absurd (omega arith)
-
-nine : _≢_ {A = ℕ} 9 0
-nine e = absurd (omega arith)
 
 -- the judge: a verdict has the number 0, and a refusal's number is that of one answer
 judged-zero : (v : Judged) → judgedNumber (judgementOf v) ≡ 0
@@ -145,3 +142,17 @@ one-evidence text w work out w₁ o₁ w₂ o₂ a b p q =
     let e : q .rows ≡ p .rows = canonical-unique (chainGraph w) (q .rows) (p .rows) (q .canonical) (p .canonical) in
     one-answer _ _ _ _ work out w₁ o₁ w₂ o₂ a b (p .promise)
     (subst (λ (rows : List ℕ). Promised (makeNumber text w work) (evidenceWords * typeCount w) (typeCount w) rows work out w₂ o₂ b) e (q .promise))
+
+make-length : (text w work work₂ : List ℕ) → length work ≡ length work₂ → makeNumber text w work ≡ makeNumber text w work₂
+unfolding makeNumber workNumber
+make-length text w work work₂ e = rw e
+
+-- and the answer is one for all work tables and outputs of the same lengths, whatever they hold
+pub any-memory-evidence : (text w work out work₂ out₂ w₁ o₁ w₂ o₂ : List ℕ) (a b : Answer) → length work ≡ length work₂ → length out ≡ length out₂
+    → EvidenceKept text w work out w₁ o₁ a → EvidenceKept text w work₂ out₂ w₂ o₂ b → a ≡ b
+any-memory-evidence text w work out work₂ out₂ w₁ o₁ w₂ o₂ a b works outs p q =
+    let e : q .rows ≡ p .rows = canonical-unique (chainGraph w) (q .rows) (p .rows) (q .canonical) (p .canonical) in
+    let r : Promised (makeNumber text w work) (evidenceWords * typeCount w) (typeCount w) (p .rows) work₂ out₂ w₂ o₂ b
+    = rw (make-length text w work work₂ works)
+    (subst (λ (rows : List ℕ). Promised (makeNumber text w work₂) (evidenceWords * typeCount w) (typeCount w) rows work₂ out₂ w₂ o₂ b) e (q .promise)) in
+    same-answer _ _ _ _ work out work₂ out₂ outs w₁ o₁ w₂ o₂ a b (p .promise) r

@@ -5,6 +5,7 @@
 ghost use mathlib.Core.Path.{_≡_};
 ghost use Prim.Native.Nat.{ℕ, _+_, _*_, _<_, _≤_};
 ghost use lib.ListN.{length, getD};
+ghost use Rattle.table.specs.Layout.{mostTypes};
 ghost use Rattle.table.specs.Layout.{typeCount};
 ghost use Rattle.chains.specs.Fields.{chainsEnd, chainGraph};
 ghost use Rattle.evidence.specs.Chained.{Chained};
@@ -77,7 +78,7 @@ pub fn search(words: &[u32], l: Layout, t: TypeRow, work: &mut [u32]) -> usize
 
 // Sets the work words of a search to 0 again.
 pub fn forget(types: usize, work: &mut [u32])
-    requires { ⌜ types ≤ 1024 ⌝ }
+    requires { ⌜ types ≤ mostTypes ⌝ }
     requires { ⌜ 2 * types ≤ length (now work) ⌝ }
     ensures { λ _. ⌜ Cleared (2 * types) (now (work .entry)) (now (work .exit)) ⌝ }
 {

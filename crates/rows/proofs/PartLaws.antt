@@ -13,7 +13,7 @@ use Rattle.table.specs.declared.layout.Column.{Column}
 use Rattle.table.specs.Kinds.{kinds}
 use Rattle.table.specs.Sound.{Runs}
 use Rattle.table.proofs.LayoutLaws.{inside-type, inside-field}
-use Rattle.table.specs.Layout.{Inside, Laid, layoutOf, wordAt, startAt, typeName, typeKind, typeCount, fieldCount, fieldWords, argumentWords, edgesStart, fieldsStart, argumentsStart, membersStart, valuesStart, edgesAt, fieldsAt, argumentsAt, membersAt, valuesAt, edgeCount, memberCount, valueCount, nameCount, edgesEnds, fieldsEnds, argumentsEnds, membersEnds, valuesEnds, edgeNames, fieldNames, argumentNames, memberNames, valueNames}
+use Rattle.table.specs.Layout.{mostListed, Inside, Laid, layoutOf, wordAt, startAt, typeName, typeKind, typeCount, fieldCount, fieldWords, argumentWords, edgesStart, fieldsStart, argumentsStart, membersStart, valuesStart, edgesAt, fieldsAt, argumentsAt, membersAt, valuesAt, edgeCount, memberCount, valueCount, nameCount, edgesEnds, fieldsEnds, argumentsEnds, membersEnds, valuesEnds, edgeNames, fieldNames, argumentNames, memberNames, valueNames}
 use Rattle.rows.specs.Parts.{runOf, edgesOf, fieldsOf, argumentsOf, membersOf, valuesOf}
 use Rattle.rows.specs.Readable.{SoundRows, NamePart, FieldPart, ArgumentPart}
 
@@ -55,7 +55,7 @@ module _ (w : List ℕ) (first ends : Column) (i : ℕ) (rise : startAt w ends i
   run-word j k = row-at w (first .base) (first .width) (startAt w ends i) (wordAt w ends i) fits rise j k
 
 -- a run of names, of edges, members or values
-module _ (w : List ℕ) (l : Layout) (base rows : ℕ) (ends : Column) (runs : Runs w ends rows) (below : (r : ℕ) → r < rows → wordAt w (record { base = base; width = 1; rows = rows }) r < l .names) (fits : base + rows ≤ length w) (most : rows ≤ 4096) (i : ℕ) (h : i < ends .rows) where
+module _ (w : List ℕ) (l : Layout) (base rows : ℕ) (ends : Column) (runs : Runs w ends rows) (below : (r : ℕ) → r < rows → wordAt w (record { base = base; width = 1; rows = rows }) r < l .names) (fits : base + rows ≤ length w) (most : rows ≤ mostListed) (i : ℕ) (h : i < ends .rows) where
   abbrev names : Column
   names = record { base = base; width = 1; rows = rows }
 

@@ -3,7 +3,7 @@ use mathlib.Core.List.{List}
 use Prim.Native.Nat.{ℕ, _+_, _≤_, _<_}
 use lib.ListN.{length, getD}
 use Rattle.table.specs.declared.layout.Layout.{Layout}
-use Rattle.table.specs.Layout.{Laid, mostArguments}
+use Rattle.table.specs.Layout.{Laid, mostListed, mostArguments}
 use Rattle.table.specs.WellFormed.{nameEnd}
 use Rattle.table.specs.Sound.{SoundWords, SoundRuns}
 use Rattle.rows.specs.Parts.{fieldRows, fieldNameIn, fieldTypeIn, argumentRows, argumentNameIn, argumentTypeIn}
@@ -26,7 +26,7 @@ pub record Readable (text w : List ℕ) (l : Layout) : Type 0 where
 -- a part of names, of edges, members or values, that starts at row `first` of its section
 pub record NamePart (l : Layout) (first : ℕ) (p : List ℕ) : Type 0 where
   pub names : (i : ℕ) → i < length p → getD p i 0 < l .names
-  pub within : first + length p ≤ 4096
+  pub within : first + length p ≤ mostListed
 
 -- a part of fields that starts at row `first` of its section
 pub record FieldPart (l : Layout) (first : ℕ) (p : List ℕ) : Type 0 where

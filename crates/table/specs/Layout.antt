@@ -1,5 +1,5 @@
 -- Document 01, "The schema table": where each count, section, row and word of a table stands. Only this file knows the limits, the
--- widths of rows, and the order of sections and of the words in a row.
+-- widths of rows and the order of sections. It has the place of each word in its row too; crates/rows says it again for the rows of a part.
 use mathlib.Core.Path.{_≡_}
 use mathlib.Core.List.{List}
 use Prim.Native.Nat.{ℕ, zero, suc, _+_, _*_, _^_, _≤_, _<_}
@@ -59,6 +59,10 @@ mostValues = 4096
 
 abbrev pub mostText : ℕ
 mostText = 65536
+
+-- the most rows of a section that is names alone: of edges, members or values
+abbrev pub mostListed : ℕ
+mostListed = 4096
 
 -- the counts, in the header's order: N T I F A M V
 unfoldable pub nameCount : List ℕ → ℕ

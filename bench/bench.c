@@ -1,4 +1,4 @@
-/* Times the library's calls on generated tables: every count near its limit; input objects with eight chain fields each; a ring. Each family
+/* Times the library's calls on generated tables: every count near its limit, and input objects of four shapes. Each family
  * comes in three sizes, n, 2n and 4n, the last at document 01's limits, so that growth shows. It prints a line of Markdown for each. */
 #include <stdint.h>
 #include <stdio.h>
@@ -87,17 +87,21 @@ static size_t limits(uint32_t size) {
     return at;
 }
 
-/* Input objects with eight chain fields each to the types behind them; with `ring`, one field each to the next, and the last to the first. */
-static size_t inputs(uint32_t t, int ring) {
-    uint32_t each = ring ? 1 : 8;
+/* Input objects, of four shapes: eight chain fields each to the types behind, none on a closed chain; the same, but that the last type leads
+ * to itself, so that all lead to a closed chain; one field each to the next, and the last to the first; eight fields each to scattered
+ * types, which nearly all lead to each other. */
+enum shape { LIMITS, BEHIND, CLOSED, RING, SCATTERED };
+static size_t inputs(uint32_t t, enum shape shape) {
+    uint32_t each = shape == RING ? 1 : 8, seed = 1;
     counts c = {t + 8, t, 0, each * t, 0, 0, 0};
     size_t at = header(c);
     memset(ends, 0, sizeof ends);
     for (uint32_t i = 0; i < t; i++) at = type_row(at, i, 5, 0, each, 0, 0);
     for (uint32_t i = 0; i < t; i++)
         for (uint32_t j = 0; j < each; j++) {
-            uint32_t to = ring ? (i + 1) % t : i + 1 + j < t ? i + 1 + j : t - 1;
-            uint32_t row[5] = {t + j, to, !ring && to == i ? 0 : 16, 0, 0};
+            seed = seed * 1664525 + 1013904223;
+            uint32_t to = shape == RING ? (i + 1) % t : shape == SCATTERED ? (seed >> 8) % t : i + 1 + j < t ? i + 1 + j : t - 1;
+            uint32_t row[5] = {t + j, to, shape == BEHIND && to == i ? 0 : 16, 0, 0};
             memcpy(words + at, row, sizeof row);
             at += 5;
         }
@@ -139,14 +143,14 @@ static double best(call f, size_t bytes, size_t n, uint64_t *value) {
 static const char *calls[] = {"check_table", "records", "first_cycle", "make_evidence", "check_evidence"};
 static const call functions[] = {table, records, cycle, make, judge};
 
-static void family(const char *name, int which, const uint32_t sizes[3]) {
+static void family(const char *name, enum shape shape, const uint32_t sizes[3]) {
     double times[5][3];
     size_t lengths[3];
     uint64_t values[5];
     for (int s = 0; s < 3; s++) {
-        size_t n = which == 0 ? limits(sizes[s]) : inputs(sizes[s], which == 2);
+        size_t n = shape == LIMITS ? limits(sizes[s]) : inputs(sizes[s], shape);
         lengths[s] = n;
-        cycle_row = which == 0 ? words[1] - 1 : 0;
+        cycle_row = shape == LIMITS ? words[1] - 1 : 0;
         for (int k = 0; k < 5; k++) {
             times[k][s] = best(functions[k], 4 * (size_t)words[0], n, &values[k]);
             fprintf(stderr, "%s %zu words, %s: %.3f ms\n", name, n, calls[k], times[k][s] * 1e3);
@@ -162,8 +166,10 @@ int main(void) {
     out = malloc(MOST_OUT * sizeof *out);
     if (!out) return 1;
     const uint32_t limit_sizes[3] = {1, 2, 4}, input_sizes[3] = {256, 512, 1024};
-    family("every count near its limit", 0, limit_sizes);
-    family("input objects, eight chain fields each", 1, input_sizes);
-    family("a ring of input objects", 2, input_sizes);
+    family("every count near its limit", LIMITS, limit_sizes);
+    family("input objects, eight chain fields each", BEHIND, input_sizes);
+    family("the same, all leading to a closed chain", CLOSED, input_sizes);
+    family("a ring of input objects", RING, input_sizes);
+    family("eight chain fields each to scattered types", SCATTERED, input_sizes);
     return 0;
 }

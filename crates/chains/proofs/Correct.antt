@@ -29,11 +29,11 @@ Since f (g ∷ gs) = f ≤ g
 
 module _ (g : Graph) (t : ℕ) where
   -- every chain field of v leads to a marked type that is not the target
-  abbrev Closed : List ℕ → ℕ → Type 0
+  abbrev pub Closed : List ℕ → ℕ → Type 0
   Closed W v = (f : ℕ) → g .start v ≤ f → f < g .stop v → g .next f < g .types → (g .next f ≡ t → ⊥) × Marked W (g .next f)
 
   -- every marked type is on the stack, or finished
-  abbrev Good : List ℕ → List ℕ → Type 0
+  abbrev pub Good : List ℕ → List ℕ → Type 0
   Good S W = (v : ℕ) → v < g .types → Marked W v → List·Memᴰ v S ⊎ Closed W v
 
   closed-grows : (W X : List ℕ) (v : ℕ) → ((u : ℕ) → Marked W u → Marked X u) → Closed W v → Closed X v
@@ -219,14 +219,15 @@ module _ (g : Graph) (t : ℕ) where
       least r S good′ gs vs p
       (beyond S Y good′ (λ l. (o .other, fail-grows q (g .next f) (mark-same W (g .next f) (o .room)))) (starts f p h′) av) av d
 
-  -- the search of t begins where t alone is marked
-  module _ (Z : List ℕ) (zeros : (v : ℕ) → v < g .types → getD Z v 0 ≡ 0) (low : t < g .types) (room : t < length Z) where
-    none-marked : Good [] Z
-    none-marked v l m = absurd (m (zeros v l))
+  -- so it is where none is marked
+  pub blank-good : (Z : List ℕ) → ((v : ℕ) → v < g .types → getD Z v 0 ≡ 0) → Good [] Z
+  blank-good Z zeros v l m = absurd (m (zeros v l))
 
+  -- the search of t begins where every marked type leads to marked types only, and not to t
+  module _ (Z : List ℕ) (good : Good [] Z) (low : t < g .types) (room : t < length Z) where
     pub no-cycle : {X : List ℕ} → Fail g t t (g .start t) (set Z t 1) X → NoCycle g t
     no-cycle {X} q fs vs p =
-        blocked [] X (fail-good [] Z X t room q none-marked) p low (fail-grows q t (mark-same Z t room)) (λ w i j. List·Memᴰ·not-nil j)
+        blocked [] X (fail-good [] Z X t room q good) p low (fail-grows q t (mark-same Z t room)) (λ w i j. List·Memᴰ·not-nil j)
 
     pub first-cycle : {fs : List ℕ} → Find g t t (g .start t) (set Z t 1) fs → FirstCycle g t fs
     unfolding Least
@@ -239,6 +240,6 @@ module _ (g : Graph) (t : ℕ) where
             simple = more (λ i. mark-same Z t room (w .fresh t i)) (w .distinct);
           };
           least = λ gs c.
-              least r (t ∷ []) (mark-good [] Z t room none-marked) gs (c .types) (c .path)
+              least r (t ∷ []) (mark-good [] Z t room good) gs (c .types) (c .path)
               (path-since (c .path)) (path-avoids (c .path) (c .simple)) (c .simple);
         }

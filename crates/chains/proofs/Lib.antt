@@ -5,8 +5,9 @@ pub mod Total
 pub mod Order
 pub mod Shape
 pub mod Turns
-pub mod CopyLaws
 pub mod Top
 pub mod Counts
 pub mod BoardLaws
-pub mod BlankLaws
+pub mod ForgetLaws
+pub mod HelpLaws
+pub mod SettleLaws

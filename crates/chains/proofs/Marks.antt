@@ -1,13 +1,14 @@
 -- The marks: what a new mark changes, and how many types are left to enter.
-use mathlib.Core.Path.{_≡_, refl, sym}
+use mathlib.Core.Path.{_≡_, refl, sym, _∙_}
 use mathlib.Core.Logic.{_⊎_, inl, inr, ⊎-elim, _≢_}
 use mathlib.Core.List.{List}
 use Prim.Native.Nat.{ℕ, suc, zero, _≤_, _<_}
 use native.Mathlib.Omega.{arith}
 use native.Mathlib.Decide.{ℕ-discrete, decLt}
-use lib.ListN.{length, getD, set}
-use lib.Seq.{getD-set-same, getD-set-other}
-use Rattle.chains.specs.Search.{free, unit}
+use lib.ListN.{length, getD, set, length-set}
+use lib.Seq.{getD-set-same, getD-set-other, drop-set-lt}
+use Rattle.chains.specs.Chains.{Graph}
+use Rattle.chains.specs.Search.{free, unit, OnlyMarks, Fail, Fail.done, Fail.skip, Fail.enter}
 
 pub same-or-not : (a b : ℕ) → (a ≡ b) ⊎ (a ≢ b)
 same-or-not a b = elim (ℕ-discrete a b) [ yes e ↦ inl e | no n ↦ inr n ]
@@ -70,3 +71,36 @@ pub free-most : (k : ℕ) (W : List ℕ) → free k W ≤ k
 unfolding free
 free-most zero W = omega arith
 free-most (suc k) W = omega (arith, free-most k W, unit-most (getD W k 0))
+
+-- a walk changes marks only
+module _ (k : ℕ) where
+  pub only-none : (W : List ℕ) → OnlyMarks k W W
+  only-none W = record { marks = λ v l. inl refl; size = refl; rest = refl }
+
+  pub only-enter : (W : List ℕ) (u : ℕ) → u < k → u < length W → getD W u 0 ≡ 0 → OnlyMarks k W (set W u 1)
+  only-enter W u low room e =
+      record {
+        marks = λ v l. ⊎-elim (λ (d : v ≡ u). inr (rw d (e, getD-set-same W u 1 0 room))) (λ n. inl (getD-set-other W u v 1 0 n)) (same-or-not v u);
+        size = length-set W u 1;
+        rest = drop-set-lt k W u 1 low;
+      }
+
+  join-mark : (a b c : ℕ) → (b ≡ a) ⊎ ((a ≡ 0) × (b ≡ 1)) → (c ≡ b) ⊎ ((b ≡ 0) × (c ≡ 1)) → (c ≡ a) ⊎ ((a ≡ 0) × (c ≡ 1))
+  join-mark a b c (inl e) (inl d) = inl (d ∙ e)
+  join-mark a b c (inl e) (inr d) = inr (omega (arith, d .0), d .1)
+  join-mark a b c (inr e) (inl d) = inr (e .0, d ∙ e .1)
+  join-mark a b c (inr e) (inr d) = absurd (omega (arith, e .1, d .0))
+
+  pub only-join : {W X Y : List ℕ} → OnlyMarks k W X → OnlyMarks k X Y → OnlyMarks k W Y
+  only-join {W} {X} {Y} a b =
+      record {
+        marks = λ v l. join-mark (getD W v 0) (getD X v 0) (getD Y v 0) (a .marks v l) (b .marks v l);
+        size = b .size ∙ a .size;
+        rest = b .rest ∙ a .rest;
+      }
+
+pub fail-only : (g : Graph) (t : ℕ) {s f : ℕ} {W X : List ℕ} → Fail g t s f W X → OnlyMarks (g .types) W X
+fail-only g t {W} (done h) = only-none (g .types) W
+fail-only g t (skip h k r) = fail-only g t r
+fail-only g t (enter {f} {W} h o q r) =
+    only-join (g .types) (only-enter (g .types) W (g .next f) (o .type) (o .room) (o .fresh)) (only-join (g .types) (fail-only g t q) (fail-only g t r))

@@ -10,7 +10,7 @@ use lib.ListN.{length, getD, set, length-set, replicate, length-replicate, getD-
 use Rattle.chains.specs.Chains.{Graph, PathTo, FirstCycle, NoCycle}
 use Rattle.chains.specs.Search.{free, Skipped, Opens, Fail, Fail.done, Fail.skip, Fail.enter, Find, Find.here, Find.below, Find.past, Find.later}
 use Rattle.chains.proofs.Marks.{same-or-not, below-or-not, free-le, free-falls}
-use Rattle.chains.proofs.Correct.{fail-fresh, no-cycle, first-cycle}
+use Rattle.chains.proofs.Correct.{Good, blank-good, fail-fresh, no-cycle, first-cycle}
 
 module _ (g : Graph) (t : ℕ) where
   abbrev Outcome : ℕ → ℕ → List ℕ → Type 0
@@ -71,11 +71,11 @@ module _ (g : Graph) (t : ℕ) where
   pub decided : t < g .types → ((fs : List ℕ) × FirstCycle g t fs) ⊎ NoCycle g t
   decided low =
       let Z : List ℕ = replicate (g .types) 0 in
-      let zeros : (v : ℕ) → v < g .types → getD Z v 0 ≡ 0 = λ v l. getD-replicate (g .types) v 0 0 l in
+      let good : Good g t [] Z = blank-good g t Z (λ v l. getD-replicate (g .types) v 0 0 l) in
       let room : t < length Z = rw length-replicate low in
       ⊎-elim
-      (λ (r : (X : List ℕ) × Fail g t t (g .start t) (set Z t 1) X). inr (no-cycle g t Z zeros low room (r .1)))
-      (λ (r : (fs : List ℕ) × Find g t t (g .start t) (set Z t 1) fs). inl (r .0, first-cycle g t Z zeros low room (r .1)))
+      (λ (r : (X : List ℕ) × Fail g t t (g .start t) (set Z t 1) X). inr (no-cycle g t Z good low room (r .1)))
+      (λ (r : (fs : List ℕ) × Find g t t (g .start t) (set Z t 1) fs). inl (r .0, first-cycle g t Z good low room (r .1)))
       (total (suc (free (g .types) (set Z t 1))) t (set Z t 1) (rw (length-set, length-replicate) (omega arith)) (omega arith))
 
   pub returns-first : t < g .types → (fs vs : List ℕ) → PathTo g t t fs vs → (gs : List ℕ) × FirstCycle g t gs

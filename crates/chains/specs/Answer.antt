@@ -1,11 +1,13 @@
 -- What a search for the first cycle asks of a graph and of the work words, and what it answers.
-use mathlib.Core.Path.{_≡_}
-use mathlib.Core.Logic.{_⊎_}
+use mathlib.Core.Path.{_≡_, refl}
+use mathlib.Core.Logic.{_⊎_, _≢_}
 use mathlib.Core.List.{List, [], _++_}
-use Prim.Native.Nat.{ℕ, _≤_, _<_}
-use lib.ListN.{length, take, drop, replicate}
+use Prim.Native.Nat.{ℕ, zero, suc, _*_, _≤_, _<_}
+use lib.ListN.{length, getD, take, drop}
+use Rattle.table.specs.declared.layout.Layout.{Layout}
 use Rattle.table.specs.Layout.{mostTypes, mostFields}
-use Rattle.chains.specs.Chains.{Graph, FirstCycle, NoCycle}
+use Rattle.order.specs.Order.{Helps}
+use Rattle.chains.specs.Chains.{Graph, Chain, FirstCycle, NoCycle}
 
 -- the graph is within the limits, and the fields of each type are among the rows, so many as there are
 pub record Shaped (g : Graph) (rows : ℕ) : Type 0 where
@@ -13,10 +15,38 @@ pub record Shaped (g : Graph) (rows : ℕ) : Type 0 where
   pub fields : rows ≤ mostFields
   pub within : (s : ℕ) → s < g .types → g .stop s ≤ rows
 
--- the first n words are 0
-pub record Blank (n : ℕ) (W : List ℕ) : Type 0 where
-  pub room : n ≤ length W
-  pub zeros : take n W ≡ replicate n 0
+-- the work words have two for each type, and behind these the order of the types, or nothing
+pub record Helped (w : List ℕ) (l : Layout) (W : List ℕ) : Type 0 where
+  pub room : 2 * l .types ≤ length W
+  pub help : Helps w (l .types) (drop (2 * l .types) W)
+
+-- Word v is the mark of type v: 0 where it is not entered, 1 where a search has entered it, 2 where it is settled. No closed chain
+-- runs through a settled type, and it leads to settled types only.
+pub record Marking (g : Graph) (W : List ℕ) : Type 0 where
+  pub room : 2 * g .types ≤ length W
+  pub most : (v : ℕ) → v < g .types → getD W v 0 ≤ 2
+  pub closed : (v f u : ℕ) → v < g .types → getD W v 0 ≡ 2 → Chain g v f u → getD W u 0 ≡ 2
+  pub none : (v : ℕ) → v < g .types → getD W v 0 ≡ 2 → NoCycle g v
+
+-- between searches no type is entered
+pub record Settled (g : Graph) (W : List ℕ) : Type 0 where
+  pub marking : Marking g W
+  pub calm : (v : ℕ) → v < g .types → getD W v 0 ≢ 1
+
+-- a mark, when those of a search are taken away
+abbrev pub unentered : ℕ → ℕ
+unentered zero = zero
+unentered (suc zero) = zero
+unentered (suc (suc m)) = suc (suc m)
+
+three-marks : (unentered 0 ≡ 0) × (unentered 1 ≡ 0) × (unentered 2 ≡ 2)
+three-marks = (refl, refl, refl)
+
+-- the marks of a search were taken away from the first n words
+pub record Forgotten (n : ℕ) (before after : List ℕ) : Type 0 where
+  pub marks : (v : ℕ) → v < n → getD after v 0 ≡ unentered (getD before v 0)
+  pub size : length after ≡ length before
+  pub rest : drop n after ≡ drop n before
 
 -- fs are the rows of t's first cycle; no rows, where no chain at all leads from t back to t
 abbrev pub CycleRows : (g : Graph) (t : ℕ) (fs : List ℕ) → Type 0

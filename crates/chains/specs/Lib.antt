@@ -2,4 +2,5 @@ pub mod Chains
 pub mod Fields
 pub mod Answer
 pub mod Search
+pub mod Settle
 pub mod Boards

@@ -1,11 +1,11 @@
 -- The search with marks, step by step: what the walk of the fields of one type does, as two relations. The contracts of the
 -- functions that search cite them. The contract of `first_cycle` does not: proofs/Correct shows what a search finds.
 -- W is the work words: type v is marked, or entered, where word v is not 0. t is the target.
-use mathlib.Core.Path.{_≡_}
+use mathlib.Core.Path.{_≡_, refl}
 use mathlib.Core.List.{List, _∷_, []}
 use Prim.Native.Nat.{ℕ, suc, zero, _+_, _*_, _≤_, _<_}
 use mathlib.Core.Logic.{_⊎_}
-use lib.ListN.{length, getD, set, take, drop}
+use lib.ListN.{length, getD, set, drop}
 use Rattle.chains.specs.Chains.{Graph}
 use Rattle.chains.specs.Answer.{Shaped}
 
@@ -57,22 +57,37 @@ pub record Ready (g : Graph) (rows s depth : ℕ) (W : List ℕ) : Type 0 where
   pub room : 2 * g .types ≤ length W
   pub left : depth + 1 + free (g .types) W ≤ g .types
 
--- the walk of the fields of s from f on found nothing: it returns 0, and leaves the marks of a search that fails
-pub record Missed (g : Graph) (t s f : ℕ) (W X : List ℕ) (n : ℕ) : Type 0 where
+-- the walk marks types, and changes nothing else: a mark that stood stays, and a new one is 1
+pub record OnlyMarks (types : ℕ) (W X : List ℕ) : Type 0 where
+  pub marks : (v : ℕ) → v < types → (getD X v 0 ≡ getD W v 0) ⊎ ((getD W v 0 ≡ 0) × (getD X v 0 ≡ 1))
+  pub size : length X ≡ length W
+  pub rest : drop types X ≡ drop types W
+
+-- the rows fs stored in the words from i on, as many as there is room for
+abbrev pub stored : ℕ → List ℕ → List ℕ → List ℕ
+stored i [] O = O
+stored i (f ∷ fs) O = set (stored (suc i) fs O) i f
+
+-- rows 7 and 8 stored from word 1 on, with room and without
+store-two : (stored 1 (7 ∷ 8 ∷ []) (0 ∷ 0 ∷ 0 ∷ []) ≡ 0 ∷ 7 ∷ 8 ∷ []) × (stored 1 (7 ∷ 8 ∷ []) (0 ∷ 0 ∷ []) ≡ 0 ∷ 7 ∷ [])
+store-two = (refl, refl)
+
+-- the walk of the fields of s from f on found nothing: it returns 0, leaves the marks of a search that fails, and stores nothing
+pub record Missed (g : Graph) (t s f : ℕ) (W X O P : List ℕ) (n : ℕ) : Type 0 where
   pub nothing : n ≡ 0
   pub fail : Fail g t s f W X
+  pub output : P ≡ O
 
--- the walk found the fields `fields`: it returns how many fields lead to the target by s, and the rows of those stand behind the marks, after
--- the `depth` that led to s
-pub record Found (g : Graph) (t s f depth : ℕ) (W X : List ℕ) (n : ℕ) : Type 0 where
+-- the walk found the fields `fields`: it returns how many fields lead to the target by s, and the rows of those are stored behind the `depth`
+-- that led to s
+pub record Found (g : Graph) (t s f depth : ℕ) (W X O P : List ℕ) (n : ℕ) : Type 0 where
   pub fields : List ℕ
   pub find : Find g t s f W fields
   pub count : n ≡ depth + length fields
   pub most : n ≤ g .types
-  pub size : length X ≡ length W
-  pub rows : take (length fields) (drop (g .types + depth) X) ≡ fields
-  pub rest : drop (2 * g .types) X ≡ drop (2 * g .types) W
+  pub only : OnlyMarks (g .types) W X
+  pub output : P ≡ stored depth fields O
 
--- what the walk of the fields of s from f on leaves in the work words, and returns
-abbrev pub Walked : (g : Graph) (t s f depth : ℕ) (W X : List ℕ) (n : ℕ) → Type 0
-Walked g t s f depth W X n = Missed g t s f W X n ⊎ Found g t s f depth W X n
+-- what the walk of the fields of s from f on leaves in the work words W and the output O, and returns
+abbrev pub Walked : (g : Graph) (t s f depth : ℕ) (W X O P : List ℕ) (n : ℕ) → Type 0
+Walked g t s f depth W X O P n = Missed g t s f W X O P n ⊎ Found g t s f depth W X O P n

@@ -2,12 +2,14 @@
 ghost use mathlib.Core.Path.{_≡_};
 ghost use Prim.Native.Nat.{_≤_, _<_};
 ghost use Rattle.table.specs.Layout.{Laid, fieldType, fieldWrap};
+ghost use Rattle.order.specs.Order.{Helps};
 ghost use Rattle.chains.specs.Fields.{inputObjectKind, isInputObject, inputObjectNamed, chainTarget, chainsEnd};
+ghost use Rattle.chains.specs.Answer.{Helped};
+use order::find::look_up;
 use rows::numbers::NameNo;
 use rows::numbers::TypeRow;
 use rows::parts::fields_start;
 use rows::types::FoundType;
-use rows::types::find_type;
 use rows::types::type_kind;
 use table::kinds::Kind;
 use table::layout::Layout;
@@ -62,12 +64,13 @@ fn field_wrap(words: &[u32], l: Layout, f: usize) -> u32
 }
 
 // The row of the input object of the name, or the count of types.
-fn input_object_named(words: &[u32], l: Layout, name: NameNo) -> usize
+fn input_object_named(words: &[u32], l: Layout, order: &[u32], name: NameNo) -> usize
     requires { ⌜ Laid (now words) l ⌝ }
+    requires { ⌜ Helps (now words) (l .types) (now order) ⌝ }
     ensures { λ r. ⌜ r ≡ inputObjectNamed (now (words .entry)) (name .0) ⌝ }
     ensures { λ r. ⌜ r ≤ l .types ⌝ }
 {
-    let FoundType::At(u) = find_type(words, l, name) else {
+    let FoundType::At(u) = look_up(words, l, order, name) else {
         return l.types;
     };
     if is_input_object(words, l, u) {
@@ -76,15 +79,28 @@ fn input_object_named(words: &[u32], l: Layout, name: NameNo) -> usize
     l.types
 }
 
-// The row of the type that a field leads to, or the count of types where it is no chain field.
-pub fn target(words: &[u32], l: Layout, f: usize) -> usize
+// The row of the type that a field leads to, or the count of types where it is no chain field. `order` helps to look it up.
+pub fn target(words: &[u32], l: Layout, order: &[u32], f: usize) -> usize
     requires { ⌜ Laid (now words) l ⌝ }
     requires { ⌜ f < l .fields ⌝ }
+    requires { ⌜ Helps (now words) (l .types) (now order) ⌝ }
     ensures { λ r. ⌜ r ≡ chainTarget (now (words .entry)) f ⌝ }
     ensures { λ r. ⌜ r ≤ l .types ⌝ }
 {
     if field_wrap(words, l, f) == CHAIN {
-        return input_object_named(words, l, field_type(words, l, f));
+        return input_object_named(words, l, order, field_type(words, l, f));
     }
     l.types
+}
+
+// The same, with the order that stands behind two words for each type in the work words, where one does.
+pub fn target_by(words: &[u32], l: Layout, work: &[u32], f: usize) -> usize
+    requires { ⌜ Laid (now words) l ⌝ }
+    requires { ⌜ f < l .fields ⌝ }
+    requires { ⌜ Helped (now words) l (now work) ⌝ }
+    ensures { λ r. ⌜ r ≡ chainTarget (now (words .entry)) f ⌝ }
+    ensures { λ r. ⌜ r ≤ l .types ⌝ }
+{
+    let order = 2 * l.types;
+    target(words, l, &work[order..], f)
 }

@@ -2,6 +2,7 @@
 ghost use mathlib.Core.Path.{_≡_};
 ghost use Prim.Native.Nat.{ℕ, _<_};
 ghost use Rattle.rows.specs.Types.{foundAt};
+ghost use Rattle.order.specs.Order.{Helps};
 ghost use Rattle.chains.specs.Fields.{chainTarget, chainGraph};
 ghost use Rattle.evidence.specs.Rules.{goesOut, nearer, comesIn};
 ghost use Rattle.evidence.specs.Chained.{Chained, chainTo};
@@ -17,12 +18,13 @@ use rows::types::FoundType;
 use table::layout::Layout;
 
 // The type that a field leads to, where it leads to one.
-pub fn led_to(words: &[u32], l: Layout, f: usize) -> FoundType
+pub fn led_to(words: &[u32], l: Layout, order: &[u32], f: usize) -> FoundType
     requires { ⌜ Chained (now words) l ⌝ }
     requires { ⌜ f < l .fields ⌝ }
+    requires { ⌜ Helps (now words) (l .types) (now order) ⌝ }
     ensures { λ r. ⌜ r ≡ foundAt (chainTarget (now (words .entry)) f) (l .types) ⌝ }
 {
-    let u = target(words, l, f);
+    let u = target(words, l, order, f);
     if u < l.types {
         return FoundType::At(TypeRow(u as u32));
     }
@@ -30,9 +32,10 @@ pub fn led_to(words: &[u32], l: Layout, f: usize) -> FoundType
 }
 
 // The type that field f leads to as a chain field of t, where it is one. The field may be any number.
-pub fn chain_to(words: &[u32], l: Layout, t: TypeRow, f: usize) -> FoundType
+pub fn chain_to(words: &[u32], l: Layout, order: &[u32], t: TypeRow, f: usize) -> FoundType
     requires { ⌜ Chained (now words) l ⌝ }
     requires { ⌜ t .0 < l .types ⌝ }
+    requires { ⌜ Helps (now words) (l .types) (now order) ⌝ }
     ensures { λ r. ⌜ r ≡ chainTo (chainGraph (now (words .entry))) (t .0) f ⌝ }
 {
     if f < fields_start(words, l, t) {
@@ -41,16 +44,17 @@ pub fn chain_to(words: &[u32], l: Layout, t: TypeRow, f: usize) -> FoundType
     if chains_end(words, l, t) <= f {
         return FoundType::Nothing;
     }
-    led_to(words, l, f)
+    led_to(words, l, order, f)
 }
 
 // Rule 5 of a field f.
-pub fn goes_out(words: &[u32], l: Layout, ev: &[u32], t: TypeRow, f: usize) -> bool
+pub fn goes_out(words: &[u32], l: Layout, order: &[u32], ev: &[u32], t: TypeRow, f: usize) -> bool
     requires { ⌜ Chained (now words) l ⌝ }
     requires { ⌜ t .0 < l .types ⌝ }
+    requires { ⌜ Helps (now words) (l .types) (now order) ⌝ }
     ensures { λ r. ⌜ r ≡ goesOut (chainGraph (now (words .entry))) (now (ev .entry)) (t .0) f ⌝ }
 {
-    let FoundType::At(u) = chain_to(words, l, t, f) else {
+    let FoundType::At(u) = chain_to(words, l, order, t, f) else {
         return false;
     };
     (leader(ev, u).0 == leader(ev, t).0)
@@ -65,15 +69,24 @@ pub fn nearer(ev: &[u32], t: TypeRow, s: TypeRow) -> bool
 }
 
 // Rule 6 of a field f of type s. The words of the two rows are looked at first, since the field's type is a search by name.
-pub fn comes_in(words: &[u32], l: Layout, ev: &[u32], t: TypeRow, f: usize, s: TypeRow) -> bool
+pub fn comes_in(
+    words: &[u32],
+    l: Layout,
+    order: &[u32],
+    ev: &[u32],
+    t: TypeRow,
+    f: usize,
+    s: TypeRow,
+) -> bool
     requires { ⌜ Chained (now words) l ⌝ }
     requires { ⌜ s .0 < l .types ⌝ }
+    requires { ⌜ Helps (now words) (l .types) (now order) ⌝ }
     ensures { λ r. ⌜ r ≡ comesIn (chainGraph (now (words .entry))) (now (ev .entry)) (t .0) f (s .0) ⌝ }
 {
     if !nearer(ev, t, s) {
         return false;
     }
-    let FoundType::At(u) = chain_to(words, l, s, f) else {
+    let FoundType::At(u) = chain_to(words, l, order, s, f) else {
         return false;
     };
     u.0 == t.0

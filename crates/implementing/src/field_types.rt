@@ -8,16 +8,17 @@ ghost use Rattle.table.specs.Layout.{typeKind};
 ghost use Rattle.rows.specs.Search.{contains};
 ghost use Rattle.rows.specs.Parts.{edgesOf, membersOf};
 ghost use Rattle.rows.specs.Readable.{SoundRows};
+ghost use Rattle.order.specs.Order.{Helps};
 ghost use Rattle.rules.specs.FieldTypes.{layerFits, layersFit, wrapsFit, namesMatch, fieldTypeFits};
 use names::wrap::list_layers;
 use names::wrap::non_null;
+use order::find::look_up;
 use rows::numbers::NameNo;
 use rows::numbers::TypeRow;
 use rows::parts::edges_of;
 use rows::parts::members_of;
 use rows::search::has_name;
 use rows::types::FoundType;
-use rows::types::find_type;
 use rows::types::type_kind;
 use table::kinds::Kind;
 use table::layout::Layout;
@@ -79,17 +80,18 @@ fn has_object_member(words: &[u32], l: Layout, ty: TypeRow, own: TypeRow, name: 
 }
 
 // Names match if equal, or by an edge, or by a union.
-fn names_match(words: &[u32], l: Layout, name: NameNo, own_name: NameNo) -> bool
+fn names_match(words: &[u32], l: Layout, order: &[u32], name: NameNo, own_name: NameNo) -> bool
     requires { ⌜ SoundRows (now words) l ⌝ }
+    requires { ⌜ Helps (now words) (l .types) (now order) ⌝ }
     ensures { λ r. ⌜ r ≡ namesMatch (now (words .entry)) (name .0) («own_name» .0) ⌝ }
 {
     if name.0 == own_name.0 {
         return true;
     }
-    let FoundType::At(ty) = find_type(words, l, name) else {
+    let FoundType::At(ty) = look_up(words, l, order, name) else {
         return false;
     };
-    let FoundType::At(own) = find_type(words, l, own_name) else {
+    let FoundType::At(own) = look_up(words, l, order, own_name) else {
         return false;
     };
     has_edge(words, l, ty, name, own) | has_object_member(words, l, ty, own, own_name)
@@ -99,13 +101,15 @@ fn names_match(words: &[u32], l: Layout, name: NameNo, own_name: NameNo) -> bool
 pub fn is_valid_implementation_field_type(
     words: &[u32],
     l: Layout,
+    order: &[u32],
     name: NameNo,
     wrap: u32,
     own_name: NameNo,
     own: u32,
 ) -> bool
     requires { ⌜ SoundRows (now words) l ⌝ }
+    requires { ⌜ Helps (now words) (l .types) (now order) ⌝ }
     ensures { λ r. ⌜ r ≡ fieldTypeFits (now (words .entry)) (name .0) wrap («own_name» .0) own ⌝ }
 {
-    wraps_fit(wrap, own) & names_match(words, l, name, own_name)
+    wraps_fit(wrap, own) & names_match(words, l, order, name, own_name)
 }

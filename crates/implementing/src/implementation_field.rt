@@ -3,6 +3,7 @@ ghost use Prim.Native.Nat.{_+_, _≤_, _<_};
 ghost use Rattle.records.specs.Records.{Emitted, each};
 ghost use Rattle.rows.specs.Parts.{fieldRows};
 ghost use Rattle.rows.specs.Readable.{SoundRows, FieldPart};
+ghost use Rattle.order.specs.Order.{Helps};
 ghost use Rattle.rules.specs.Interface.{missingField, fieldTypeRecord, fieldArguments};
 ghost use Rattle.implementing.specs.Rules.{fieldRule};
 ghost use Rattle.table.specs.Layout.{mostFields};
@@ -49,6 +50,7 @@ fn validate_missing_field(
 fn validate_field_type(
     words: &[u32],
     l: Layout,
+    order: &[u32],
     t: TypeRow,
     first: usize,
     fields: &[u32],
@@ -62,6 +64,7 @@ fn validate_field_type(
     requires { ⌜ FieldPart l first (now fields) ⌝ }
     requires { ⌜ FieldPart l «interface_first» (now «interface_fields») ⌝ }
     requires { ⌜ k < fieldRows (now «interface_fields») ⌝ }
+    requires { ⌜ Helps (now words) (l .types) (now order) ⌝ }
     ensures { λ n. ⌜ Emitted (fieldTypeRecord (now (words .entry)) (t .0) first (now (fields .entry)) e (now («interface_fields» .entry)) «interface_first» k) (now (out .entry)) (now (out .exit)) n ⌝ }
     ensures { λ n. ⌜ n ≤ 1 ⌝ }
 {
@@ -72,7 +75,7 @@ fn validate_field_type(
     let wrap = field_wrap(interface_fields, k);
     let own_name = field_type(fields, x);
     let own = field_wrap(fields, x);
-    if is_valid_implementation_field_type(words, l, name, wrap, own_name, own) {
+    if is_valid_implementation_field_type(words, l, order, name, wrap, own_name, own) {
         return 0;
     }
     put(
@@ -117,6 +120,7 @@ fn validate_interface_field(
     rule: FieldRule,
     words: &[u32],
     l: Layout,
+    order: &[u32],
     t: TypeRow,
     first: usize,
     fields: &[u32],
@@ -130,6 +134,7 @@ fn validate_interface_field(
     requires { ⌜ FieldPart l first (now fields) ⌝ }
     requires { ⌜ FieldPart l «interface_first» (now «interface_fields») ⌝ }
     requires { ⌜ k < fieldRows (now «interface_fields») ⌝ }
+    requires { ⌜ Helps (now words) (l .types) (now order) ⌝ }
     ensures { λ n. ⌜ Emitted (fieldRule rule (now (words .entry)) (t .0) first (now (fields .entry)) e (now («interface_fields» .entry)) «interface_first» k) (now (out .entry)) (now (out .exit)) n ⌝ }
     ensures { λ n. ⌜ n ≤ mostOfInterfaceField ⌝ }
 {
@@ -146,6 +151,7 @@ fn validate_interface_field(
         FieldRule::Types => validate_field_type(
             words,
             l,
+            order,
             t,
             first,
             fields,
@@ -174,6 +180,7 @@ pub fn validate_interface_fields(
     rule: FieldRule,
     words: &[u32],
     l: Layout,
+    order: &[u32],
     t: TypeRow,
     first: usize,
     fields: &[u32],
@@ -185,6 +192,7 @@ pub fn validate_interface_fields(
     requires { ⌜ SoundRows (now words) l ⌝ }
     requires { ⌜ FieldPart l first (now fields) ⌝ }
     requires { ⌜ FieldPart l «interface_first» (now «interface_fields») ⌝ }
+    requires { ⌜ Helps (now words) (l .types) (now order) ⌝ }
     ensures { λ n. ⌜ Emitted (each (fieldRule rule (now (words .entry)) (t .0) first (now (fields .entry)) e (now («interface_fields» .entry)) «interface_first») (fieldRows (now («interface_fields» .entry)))) (now (out .entry)) (now (out .exit)) n ⌝ }
     ensures { λ n. ⌜ n ≤ mostOfInterface ⌝ }
 {
@@ -197,6 +205,7 @@ pub fn validate_interface_fields(
             rule,
             words,
             l,
+            order,
             t,
             first,
             fields,

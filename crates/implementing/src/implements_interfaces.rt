@@ -10,9 +10,11 @@ ghost use Rattle.records.specs.Records.{Emitted, each, when};
 ghost use Rattle.records.specs.Rows.{undefinedDefinition, transitiveImplementedInterfaces, atEdge};
 ghost use Rattle.rows.specs.Search.{contains};
 ghost use Rattle.rows.specs.Types.{isInterface};
+ghost use Rattle.order.specs.Order.{Helps};
 ghost use Rattle.rules.specs.Interface.{transitiveEdge};
 ghost use Rattle.implementing.specs.Interfaces.{foundInterface};
 ghost use Rattle.table.specs.Layout.{mostEdges};
+use order::find::look_up;
 use records::Place;
 use records::Record;
 use records::put;
@@ -21,17 +23,17 @@ use rows::numbers::NameNo;
 use rows::numbers::TypeRow;
 use rows::search::has_name;
 use rows::types::FoundType;
-use rows::types::find_type;
 use rows::types::type_kind;
 use table::kinds::Kind;
 use table::layout::Layout;
 
 // The interface of the name.
-pub fn find_interface(words: &[u32], l: Layout, name: NameNo) -> FoundType
+pub fn find_interface(words: &[u32], l: Layout, order: &[u32], name: NameNo) -> FoundType
     requires { ⌜ Laid (now words) l ⌝ }
+    requires { ⌜ Helps (now words) (l .types) (now order) ⌝ }
     ensures { λ r. ⌜ r ≡ foundInterface (now (words .entry)) (name .0) ⌝ }
 {
-    let FoundType::At(j) = find_type(words, l, name) else {
+    let FoundType::At(j) = look_up(words, l, order, name) else {
         return FoundType::Nothing;
     };
     if type_kind(words, l, j) == Kind::INTERFACE {
@@ -44,16 +46,18 @@ pub fn find_interface(words: &[u32], l: Layout, name: NameNo) -> FoundType
 pub fn validate_edge_defined(
     words: &[u32],
     l: Layout,
+    order: &[u32],
     t: TypeRow,
     name: NameNo,
     row: u32,
     out: &mut [u32],
 ) -> usize
     requires { ⌜ Laid (now words) l ⌝ }
+    requires { ⌜ Helps (now words) (l .types) (now order) ⌝ }
     ensures { λ n. ⌜ Emitted (when (not (isInterface (now (words .entry)) (name .0))) (undefinedDefinition (t .0) (name .0) atEdge row ∷ [])) (now (out .entry)) (now (out .exit)) n ⌝ }
     ensures { λ n. ⌜ n ≤ 1 ⌝ }
 {
-    let FoundType::At(_) = find_interface(words, l, name) else {
+    let FoundType::At(_) = find_interface(words, l, order, name) else {
         return put(out, Record::undefined_definition(t, name, Place::EDGE, row));
     };
     0

@@ -4,6 +4,7 @@ ghost use Prim.Native.Nat.{_+_, _*_, _≤_, _<_};
 ghost use Rattle.records.specs.Records.{Emitted, when};
 ghost use Rattle.rows.specs.Types.{isInterface, typeNamed};
 ghost use Rattle.rows.specs.Readable.{SoundRows, NamePart, FieldPart};
+ghost use Rattle.order.specs.Order.{Helps};
 ghost use Rattle.rules.specs.Interface.{implementsRecords, implementedFields, edgesRecords};
 ghost use Rattle.implementing.specs.Rules.{definedRule, edgeRule, eachEdge};
 ghost use Rattle.rules.specs.Bounds.{mostOfInterface, mostOfEdges};
@@ -45,6 +46,7 @@ fn validate_implemented(
     rule: DefinedRule,
     words: &[u32],
     l: Layout,
+    order: &[u32],
     t: TypeRow,
     edges: &[u32],
     first: usize,
@@ -56,6 +58,7 @@ fn validate_implemented(
     requires { ⌜ SoundRows (now words) l ⌝ }
     requires { ⌜ FieldPart l first (now fields) ⌝ }
     requires { ⌜ j .0 < l .types ⌝ }
+    requires { ⌜ Helps (now words) (l .types) (now order) ⌝ }
     ensures { λ n. ⌜ Emitted (definedRule rule (now (words .entry)) (t .0) (now (edges .entry)) first (now (fields .entry)) e (j .0)) (now (out .entry)) (now (out .exit)) n ⌝ }
     ensures { λ n. ⌜ n ≤ mostOfInterface ⌝ }
 {
@@ -70,6 +73,7 @@ fn validate_implemented(
                 r,
                 words,
                 l,
+                order,
                 t,
                 first,
                 fields,
@@ -87,6 +91,7 @@ fn validate_defined_edge(
     rule: DefinedRule,
     words: &[u32],
     l: Layout,
+    order: &[u32],
     t: TypeRow,
     edges: &[u32],
     first: usize,
@@ -97,13 +102,14 @@ fn validate_defined_edge(
 ) -> usize
     requires { ⌜ SoundRows (now words) l ⌝ }
     requires { ⌜ FieldPart l first (now fields) ⌝ }
+    requires { ⌜ Helps (now words) (l .types) (now order) ⌝ }
     ensures { λ n. ⌜ Emitted (when (isInterface (now (words .entry)) (name .0)) (definedRule rule (now (words .entry)) (t .0) (now (edges .entry)) first (now (fields .entry)) e (typeNamed (now (words .entry)) (name .0)))) (now (out .entry)) (now (out .exit)) n ⌝ }
     ensures { λ n. ⌜ n ≤ mostOfInterface ⌝ }
 {
-    let FoundType::At(j) = find_interface(words, l, name) else {
+    let FoundType::At(j) = find_interface(words, l, order, name) else {
         return 0;
     };
-    validate_implemented(rule, words, l, t, edges, first, fields, e, j, out)
+    validate_implemented(rule, words, l, order, t, edges, first, fields, e, j, out)
 }
 
 // One rule for the edge e of that name.
@@ -111,6 +117,7 @@ fn validate_edge(
     rule: EdgeRule,
     words: &[u32],
     l: Layout,
+    order: &[u32],
     t: TypeRow,
     edges: &[u32],
     first: usize,
@@ -121,13 +128,14 @@ fn validate_edge(
 ) -> usize
     requires { ⌜ SoundRows (now words) l ⌝ }
     requires { ⌜ FieldPart l first (now fields) ⌝ }
+    requires { ⌜ Helps (now words) (l .types) (now order) ⌝ }
     ensures { λ n. ⌜ Emitted (edgeRule rule (now (words .entry)) (t .0) (now (edges .entry)) first (now (fields .entry)) (name .0) e) (now (out .entry)) (now (out .exit)) n ⌝ }
     ensures { λ n. ⌜ n ≤ mostOfInterface ⌝ }
 {
     match rule {
-        EdgeRule::Undefined => validate_edge_defined(words, l, t, name, e, out),
+        EdgeRule::Undefined => validate_edge_defined(words, l, order, t, name, e, out),
         EdgeRule::Defined(r) => {
-            validate_defined_edge(r, words, l, t, edges, first, fields, name, e, out)
+            validate_defined_edge(r, words, l, order, t, edges, first, fields, name, e, out)
         }
     }
 }
@@ -137,6 +145,7 @@ fn validate_each_edge(
     rule: EdgeRule,
     words: &[u32],
     l: Layout,
+    order: &[u32],
     t: TypeRow,
     first: usize,
     edges: &[u32],
@@ -147,6 +156,7 @@ fn validate_each_edge(
     requires { ⌜ SoundRows (now words) l ⌝ }
     requires { ⌜ NamePart l first (now edges) ⌝ }
     requires { ⌜ FieldPart l «fields_first» (now fields) ⌝ }
+    requires { ⌜ Helps (now words) (l .types) (now order) ⌝ }
     ensures { λ n. ⌜ Emitted (eachEdge rule (now (words .entry)) (t .0) first (now (edges .entry)) «fields_first» (now (fields .entry))) (now (out .entry)) (now (out .exit)) n ⌝ }
     ensures { λ n. ⌜ n ≤ mostOfEdges ⌝ }
 {
@@ -158,6 +168,7 @@ fn validate_each_edge(
             rule,
             words,
             l,
+            order,
             t,
             edges,
             fields_first,
@@ -175,6 +186,7 @@ fn validate_each_edge(
 fn validate_implements_interfaces(
     words: &[u32],
     l: Layout,
+    order: &[u32],
     t: TypeRow,
     first: usize,
     edges: &[u32],
@@ -185,6 +197,7 @@ fn validate_implements_interfaces(
     requires { ⌜ SoundRows (now words) l ⌝ }
     requires { ⌜ NamePart l first (now edges) ⌝ }
     requires { ⌜ FieldPart l «fields_first» (now fields) ⌝ }
+    requires { ⌜ Helps (now words) (l .types) (now order) ⌝ }
     ensures { λ n. ⌜ Emitted (implementsRecords (now (words .entry)) (t .0) first (now (edges .entry))) (now (out .entry)) (now (out .exit)) n ⌝ }
     ensures { λ n. ⌜ n ≤ 2 * mostOfEdges ⌝ }
 {
@@ -192,6 +205,7 @@ fn validate_implements_interfaces(
         EdgeRule::Undefined,
         words,
         l,
+        order,
         t,
         first,
         edges,
@@ -205,6 +219,7 @@ fn validate_implements_interfaces(
             EdgeRule::Defined(DefinedRule::Transitive),
             words,
             l,
+            order,
             t,
             first,
             edges,
@@ -218,6 +233,7 @@ fn validate_implements_interfaces(
 fn validate_implementation_fields(
     words: &[u32],
     l: Layout,
+    order: &[u32],
     t: TypeRow,
     first: usize,
     edges: &[u32],
@@ -228,16 +244,28 @@ fn validate_implementation_fields(
     requires { ⌜ SoundRows (now words) l ⌝ }
     requires { ⌜ NamePart l first (now edges) ⌝ }
     requires { ⌜ FieldPart l «fields_first» (now fields) ⌝ }
+    requires { ⌜ Helps (now words) (l .types) (now order) ⌝ }
     ensures { λ n. ⌜ Emitted (implementedFields (now (words .entry)) (t .0) first (now (edges .entry)) «fields_first» (now (fields .entry))) (now (out .entry)) (now (out .exit)) n ⌝ }
     ensures { λ n. ⌜ n ≤ 4 * mostOfEdges ⌝ }
 {
-    let n = validate_implements_interfaces(words, l, t, first, edges, fields_first, fields, out);
+    let n = validate_implements_interfaces(
+        words,
+        l,
+        order,
+        t,
+        first,
+        edges,
+        fields_first,
+        fields,
+        out,
+    );
     let at = used(n, out.len());
     let m = n
         + validate_each_edge(
             EdgeRule::Defined(DefinedRule::Fields(FieldRule::Missing)),
             words,
             l,
+            order,
             t,
             first,
             edges,
@@ -251,6 +279,7 @@ fn validate_implementation_fields(
             EdgeRule::Defined(DefinedRule::Fields(FieldRule::Types)),
             words,
             l,
+            order,
             t,
             first,
             edges,
@@ -264,6 +293,7 @@ fn validate_implementation_fields(
 pub fn validate_edges(
     words: &[u32],
     l: Layout,
+    order: &[u32],
     t: TypeRow,
     first: usize,
     edges: &[u32],
@@ -274,16 +304,28 @@ pub fn validate_edges(
     requires { ⌜ SoundRows (now words) l ⌝ }
     requires { ⌜ NamePart l first (now edges) ⌝ }
     requires { ⌜ FieldPart l «fields_first» (now fields) ⌝ }
+    requires { ⌜ Helps (now words) (l .types) (now order) ⌝ }
     ensures { λ n. ⌜ Emitted (edgesRecords (now (words .entry)) (t .0) first (now (edges .entry)) «fields_first» (now (fields .entry))) (now (out .entry)) (now (out .exit)) n ⌝ }
     ensures { λ n. ⌜ n ≤ 5 * mostOfEdges ⌝ }
 {
-    let n = validate_implementation_fields(words, l, t, first, edges, fields_first, fields, out);
+    let n = validate_implementation_fields(
+        words,
+        l,
+        order,
+        t,
+        first,
+        edges,
+        fields_first,
+        fields,
+        out,
+    );
     let at = used(n, out.len());
     n
         + validate_each_edge(
             EdgeRule::Defined(DefinedRule::Fields(FieldRule::Arguments)),
             words,
             l,
+            order,
             t,
             first,
             edges,

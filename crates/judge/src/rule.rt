@@ -1,4 +1,6 @@
 // The seven rules of document 01, each a test of row t.
+//
+// Where a rule has a type looked up by its name it hands on no words of an order, `&words[..0]`, since the judge is lent none.
 ghost use mathlib.Core.Path.{_≡_};
 ghost use Prim.Native.Nat.{ℕ, _<_, _≤_};
 ghost use Rattle.chains.specs.Fields.{isInputObject, chainGraph};
@@ -68,7 +70,7 @@ pub fn rule5(words: &[u32], l: Layout, ev: &[u32], t: TypeRow) -> bool
     if !marked(ev, t) {
         return true;
     }
-    goes_out(words, l, ev, t, out_field(ev, t))
+    goes_out(words, l, &words[..0], ev, t, out_field(ev, t))
 }
 
 // A field f is a chain field to this type, from one with the same leader and depth one less.
@@ -78,7 +80,7 @@ fn some_comes_in(words: &[u32], l: Layout, ev: &[u32], t: TypeRow, f: usize) -> 
 {
     let mut s = 0;
     while s < l.types {
-        if comes_in(words, l, ev, t, f, TypeRow(s as u32)) {
+        if comes_in(words, l, &words[..0], ev, t, f, TypeRow(s as u32)) {
             return true;
         }
         s += 1;
@@ -106,7 +108,7 @@ fn falls(words: &[u32], l: Layout, ev: &[u32], t: TypeRow, f: usize) -> bool
     requires { ⌜ f < l .fields ⌝ }
     ensures { λ r. ⌜ r ≡ falls (chainGraph (now (words .entry))) (now (ev .entry)) (t .0) f ⌝ }
 {
-    let FoundType::At(u) = led_to(words, l, f) else {
+    let FoundType::At(u) = led_to(words, l, &words[..0], f) else {
         return true;
     };
     (number(ev, u) <= number(ev, t)) & (marked(ev, t) | (number(ev, u) < number(ev, t)))

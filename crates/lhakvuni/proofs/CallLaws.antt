@@ -2,11 +2,10 @@
 use mathlib.Core.Path.{_≡_, refl, sym, ap, subst, _∙_}
 use mathlib.Core.Logic.{_≢_, inr, ⊎-elim}
 use mathlib.Core.List.{List, [], _++_}
-use Prim.Native.Nat.{ℕ, _+_, _*_, _-_, _≤_, _<_}
+use Prim.Native.Nat.{ℕ, _*_, _≤_, _<_}
 use native.Mathlib.Omega.{arith}
 use lib.Dec.{lit<}
-use lib.ListN.{length, getD, take, drop, replicate}
-use lib.Seq.{getD-take, getD-drop}
+use lib.ListN.{length, drop, replicate}
 use Rattle.table.specs.declared.layout.Layout.{Layout}
 use Rattle.table.specs.declared.check.Verdict.{Verdict}
 use Rattle.table.specs.declared.check.Verdict.the-variants.{WellFormed, Refused}
@@ -20,12 +19,14 @@ use Rattle.chains.specs.Fields.{chainGraph}
 use Rattle.chains.specs.Answer.{CycleRows}
 use Rattle.chains.specs.Chains.{Graph, PathTo, PathTo.last, PathTo.step}
 use Rattle.chains.proofs.Marks.{below-or-not}
+use Rattle.chains.proofs.HelpLaws.{rest-behind}
 use Rattle.chains.proofs.Counts.{cycleCount, count-right, cycleRows, rows-right}
 use Rattle.lhakvuni.specs.declared.answer.Answer.{Answer}
 use Rattle.lhakvuni.specs.declared.answer.Answer.the-variants.{Refused as Refuse}
 use Rattle.lhakvuni.specs.Promise.{Output, Promised}
 use Rattle.lhakvuni.specs.Calls.{workWords, workNumber, rowNumber, recordsNumber, cycleNumber, Listed, RecordsKept, FirstCycleKept}
-use Rattle.lhakvuni.specs.Work.{Counted, CycleOutput}
+use Rattle.lhakvuni.specs.Work.{Prepared, Counted, countsIn, CycleOutput}
+use Rattle.lhakvuni.proofs.WorkLaws.{counts-part}
 use Rattle.lhakvuni.proofs.PromiseLaws.{promise-refused, promise-given}
 use Rattle.lhakvuni.proofs.NumberLaws.{types-are, records-refused, cycle-refused, refusal-some, work-short, work-long, records-number, cycle-row, cycle-work, row-below}
 
@@ -58,25 +59,20 @@ module _ (text w : List ℕ) (v : Verdict) (e : numberOf v ≡ refusal text w) w
     pub records-work : (work out : List ℕ) → length work < workWords * l .types → RecordsKept text w work out work out (Refuse 9)
     records-work work out h = records-refuse text w work out 9 (records-number text w accepted work ∙ work-short w l same workWords work h) nine
 
-    -- 10 or a success: the counts were filled in, the rows written or not, and the work words cleared
-    pub records-given : (work mid work′ out out′ cycles : List ℕ) (a : Answer) → workWords * l .types ≤ length work → Counted (chainGraph w) work mid
-        → cycles ≡ take (workWords * l .types - 2 * l .types) (drop (2 * l .types) mid)
-        → Output (length (listOf text w (λ u. getD cycles u 0))) (flat (listOf text w (λ u. getD cycles u 0))) out out′ a
+    -- 10 or a success: the table was prepared, the counts filled in, the rows written or not, and the work words cleared
+    pub records-given : (work start mid work′ out out′ : List ℕ) (a : Answer) → workWords * l .types ≤ length work
+        → Prepared w l work start → Counted (chainGraph w) start mid
+        → Output (length (listOf text w (countsIn (l .types) mid))) (flat (listOf text w (countsIn (l .types) mid))) out out′ a
         → work′ ≡ replicate (workWords * l .types) 0 ++ drop (workWords * l .types) mid → RecordsKept text w work out work′ out′ a
-    records-given work mid work′ out out′ cycles a room c p o z =
+    records-given work start mid work′ out out′ a room p c o z =
         let t = types-are w l same in
-        let q : cycles ≡ take (workWords * typeCount w - 2 * typeCount w) (drop (2 * typeCount w) mid) = rw t at p in
-        let y : work′ ≡ replicate (workWords * typeCount w) 0 ++ drop (workWords * typeCount w) mid = rw t at z in
+        let k : ℕ = workWords * l .types in
+        let kept : drop k mid ≡ drop k work = rest-behind (2 * typeCount w) k start mid (omega arith) (c .rest) ∙ p .rest in
+        let y : work′ ≡ replicate k 0 ++ drop k work = z ∙ ap (λ (x : List ℕ). replicate k 0 ++ x) kept in
         record {
-          rows = listOf text w (λ u. getD cycles u 0);
-          listed = record {
-            counts = λ u. getD cycles u 0;
-            right = λ u h.
-                let f : getD cycles u 0 ≡ getD mid (2 * typeCount w + u) 0 = ap (λ (x : List ℕ). getD x u 0) q ∙ getD-take (workWords * typeCount w - 2 * typeCount w) (drop (2 * typeCount w) mid) u 0 (omega arith) ∙ getD-drop (2 * typeCount w) mid u 0 in
-                rw f (c .counts u h);
-            list = refl;
-          };
-          promise = promise-given _ _ _ _ work out work′ out′ a (records-number text w accepted work ∙ work-long w l same workWords work room) o (rw (c .rest) at y);
+          rows = listOf text w (countsIn (l .types) mid);
+          listed = record { counts = countsIn (l .types) mid; right = counts-part (chainGraph w) (l .types) t start mid c; list = refl };
+          promise = promise-given _ _ _ _ work out work′ out′ a (records-number text w accepted work ∙ work-long w l same workWords work room) o (rw t at y);
         }
 
 -- a closed chain ends at a type

@@ -2,18 +2,31 @@
 use mathlib.Core.Path.{_≡_}
 use mathlib.Core.List.{List}
 use Prim.Native.Nat.{ℕ, _+_, _*_, _<_}
-use lib.ListN.{length, getD, drop}
+use lib.ListN.{length, getD, take, drop}
+use Rattle.table.specs.declared.layout.Layout.{Layout}
 use Rattle.chains.specs.Chains.{Graph}
-use Rattle.chains.specs.Answer.{CycleRows, CycleCount}
+use Rattle.chains.specs.Fields.{chainGraph}
+use Rattle.chains.specs.Answer.{Helped, Settled, CycleRows, CycleCount}
 use Rattle.lhakvuni.specs.declared.answer.Answer.{Answer}
 use Rattle.lhakvuni.specs.Promise.{Output}
 use Rattle.lhakvuni.specs.Calls.{workWords}
 
--- each type's count stands behind the two words for each type that a search works with; the words behind are unchanged
-pub record Counted (g : Graph) (before after : List ℕ) : Type 0 where
-  pub counts : (t : ℕ) → t < g .types → CycleCount g t (getD after (2 * g .types + t) 0)
+-- the table before a search: no type is entered, and the types stand in order; the words behind are unchanged
+pub record Prepared (w : List ℕ) (l : Layout) (before after : List ℕ) : Type 0 where
+  pub settled : Settled (chainGraph w) after
+  pub helped : Helped w l after
   pub size : length after ≡ length before
-  pub rest : drop (workWords * g .types) after ≡ drop (workWords * g .types) before
+  pub rest : drop (workWords * l .types) after ≡ drop (workWords * l .types) before
+
+-- each type's count stands behind the marks; the order and the words behind are unchanged
+pub record Counted (g : Graph) (before after : List ℕ) : Type 0 where
+  pub counts : (t : ℕ) → t < g .types → CycleCount g t (getD after (g .types + t) 0)
+  pub size : length after ≡ length before
+  pub rest : drop (2 * g .types) after ≡ drop (2 * g .types) before
+
+-- the count of type t, of k
+abbrev pub countsIn : ℕ → List ℕ → ℕ → ℕ
+countsIn k W t = getD (take k (drop k W)) t 0
 
 -- the first cycle of t, written if it fits
 pub record CycleOutput (g : Graph) (t : ℕ) (before after : List ℕ) (a : Answer) : Type 0 where

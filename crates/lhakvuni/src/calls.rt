@@ -7,17 +7,18 @@ ghost use Rattle.table.specs.Layout.{layoutOf, typeCount};
 ghost use Rattle.table.specs.WellFormed.{refusal};
 ghost use Rattle.table.specs.Answers.{numberOf as verdictNumber, Proper};
 ghost use Rattle.rows.specs.Readable.{SoundRows, Readable};
-ghost use Rattle.records.specs.Records.{flat};
+ghost use Rattle.records.specs.Records.{Emitted, flat};
 ghost use Rattle.rules.specs.Bounds.{mostRecords};
 ghost use Rattle.rules.specs.Validation.{records as listOf};
 ghost use Rattle.chains.specs.Fields.{chainGraph};
-ghost use Rattle.chains.specs.Answer.{Blank};
+ghost use Rattle.chains.specs.Answer.{Helped, Settled};
 ghost use Rattle.lhakvuni.specs.Promise.{Output};
 ghost use Rattle.lhakvuni.specs.Calls.{rowNumber, RecordsKept, FirstCycleKept};
-ghost use Rattle.lhakvuni.specs.Work.{CycleOutput};
+ghost use Rattle.lhakvuni.specs.Work.{countsIn, CycleOutput};
 use crate::answer::Answer;
-use crate::cycles::count_cycle;
-use crate::cycles::count_cycles;
+use crate::work::count_cycle;
+use crate::work::count_cycles;
+use crate::work::prepare;
 use chains::cycle::clear;
 use chains::fields::is_input_object;
 use records::Record;
@@ -35,30 +36,42 @@ pub fn check_table(text: &[u8], words: &[u32]) -> Verdict
     table::check::check_table(text, words)
 }
 
-// How many records there are: the rules over an empty part of the output.
-fn count_records(text: &[u8], words: &[u32], l: Layout, cycles: &[u32], out: &mut [u32]) -> usize
+// The rules, with the counts and the order of the work table.
+fn list_records(text: &[u8], words: &[u32], l: Layout, work: &[u32], out: &mut [u32]) -> usize
     requires { ⌜ Readable (now text) (now words) l ⌝ }
-    requires { ⌜ l .types ≤ length (now cycles) ⌝ }
-    ensures { λ n. ⌜ n ≡ length (listOf (now (text .entry)) (now (words .entry)) (λ u. getD (now (cycles .entry)) u 0)) ⌝ }
+    requires { ⌜ Helped (now words) l (now work) ⌝ }
+    ensures { λ n. ⌜ Emitted (listOf (now (text .entry)) (now (words .entry)) (countsIn (l .types) (now (work .entry)))) (now (out .entry)) (now (out .exit)) n ⌝ }
+    ensures { λ n. ⌜ n ≤ mostRecords ⌝ }
+{
+    let from = l.types;
+    let to = 2 * l.types;
+    validate_schema(text, words, l, &work[to..], &work[from..to], out)
+}
+
+// How many records there are: the rules over an empty part of the output.
+fn count_records(text: &[u8], words: &[u32], l: Layout, work: &[u32], out: &mut [u32]) -> usize
+    requires { ⌜ Readable (now text) (now words) l ⌝ }
+    requires { ⌜ Helped (now words) l (now work) ⌝ }
+    ensures { λ n. ⌜ n ≡ length (listOf (now (text .entry)) (now (words .entry)) (countsIn (l .types) (now (work .entry)))) ⌝ }
     ensures { λ n. ⌜ n ≤ mostRecords ⌝ }
     ensures { λ n. ⌜ now (out .exit) ≡ now (out .entry) ⌝ }
 {
     let end = out.len();
-    validate_schema(text, words, l, cycles, &mut out[end..])
+    list_records(text, words, l, work, &mut out[end..])
 }
 
 // Writes the records if they fit.
-fn write_records(text: &[u8], words: &[u32], l: Layout, cycles: &[u32], out: &mut [u32]) -> Answer
+fn write_records(text: &[u8], words: &[u32], l: Layout, work: &[u32], out: &mut [u32]) -> Answer
     requires { ⌜ Readable (now text) (now words) l ⌝ }
-    requires { ⌜ l .types ≤ length (now cycles) ⌝ }
-    ensures { λ a. ⌜ Output (length (listOf (now (text .entry)) (now (words .entry)) (λ u. getD (now (cycles .entry)) u 0))) (flat (listOf (now (text .entry)) (now (words .entry)) (λ u. getD (now (cycles .entry)) u 0))) (now (out .entry)) (now (out .exit)) a ⌝ }
+    requires { ⌜ Helped (now words) l (now work) ⌝ }
+    ensures { λ a. ⌜ Output (length (listOf (now (text .entry)) (now (words .entry)) (countsIn (l .types) (now (work .entry))))) (flat (listOf (now (text .entry)) (now (words .entry)) (countsIn (l .types) (now (work .entry))))) (now (out .entry)) (now (out .exit)) a ⌝ }
 {
-    let rows = count_records(text, words, l, cycles, out);
+    let rows = count_records(text, words, l, work, out);
     let need = Record::WORDS * rows;
     if out.len() < need {
         return Answer::Short(need);
     }
-    validate_schema(text, words, l, cycles, out);
+    list_records(text, words, l, work, out);
     Answer::Rows(rows)
 }
 
@@ -70,14 +83,14 @@ pub fn records(text: &[u8], words: &[u32], work: &mut [u32], out: &mut [u32]) ->
         return Answer::Refused(n);
     }
     let l = layout_of(words);
-    let from = 2 * l.types;
-    let to = 3 * l.types;
-    if work.len() < to {
+    let need = 3 * l.types;
+    if work.len() < need {
         return Answer::Refused(9);
     }
+    prepare(words, l, work);
     count_cycles(words, l, work);
-    let answer = write_records(text, words, l, &work[from..to], out);
-    clear(work, to);
+    let answer = write_records(text, words, l, work, out);
+    clear(work, need);
     answer
 }
 
@@ -113,19 +126,22 @@ pub fn first_cycle(
     if refusal != 0 {
         return Answer::Refused(refusal);
     }
-    let need = 3 * l.types;
-    if work.len() < need {
+    let room = 3 * l.types;
+    if work.len() < room {
         return Answer::Refused(9);
     }
-    clear(work, need);
-    write_cycle(words, l, TypeRow(row), work, out)
+    prepare(words, l, work);
+    let answer = write_cycle(words, l, TypeRow(row), work, out);
+    clear(work, room);
+    answer
 }
 
 // Writes the first cycle if it fits.
 fn write_cycle(words: &[u32], l: Layout, t: TypeRow, work: &mut [u32], out: &mut [u32]) -> Answer
     requires { ⌜ SoundRows (now words) l ⌝ }
     requires { ⌜ t .0 < l .types ⌝ }
-    requires { ⌜ Blank (2 * l .types) (now work) ⌝ }
+    requires { ⌜ Settled (chainGraph (now words)) (now work) ⌝ }
+    requires { ⌜ Helped (now words) l (now work) ⌝ }
     ensures { λ a. ⌜ CycleOutput (chainGraph (now (words .entry))) (t .0) (now (out .entry)) (now (out .exit)) a ⌝ }
     ensures { λ a. ⌜ now (work .exit) ≡ now (work .entry) ⌝ }
 {

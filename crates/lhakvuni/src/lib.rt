@@ -8,9 +8,9 @@
 pub mod answer;
 pub mod c;
 pub mod calls;
-pub mod cycles;
 pub mod judging;
 pub mod making;
+pub mod work;
 
 pub use answer::Answer;
 pub use calls::check_table;

@@ -2,3 +2,4 @@ pub mod OrderLaws
 mod RankLaws
 mod InsertLaws
 mod LookupLaws
+pub mod PlacedLaws

@@ -1,17 +1,18 @@
-// A type by its name, from the order of the type rows.
+// A type by its name.
 ghost use mathlib.Core.Path.{_≡_};
 ghost use Rattle.table.specs.Layout.{Laid};
 ghost use Rattle.rows.specs.Types.{typeNamed, foundAt};
-ghost use Rattle.order.specs.Order.{Ordered};
+ghost use Rattle.order.specs.Order.{Ordered, Helps};
 use crate::rank::rank_of;
 use rows::numbers::NameNo;
 use rows::numbers::TypeRow;
 use rows::types::FoundType;
+use rows::types::find_type;
 use rows::types::type_name;
 use table::layout::Layout;
 
-// The type of the name: it can only stand at the name's rank.
-pub fn find_ordered(words: &[u32], l: Layout, order: &[u32], name: NameNo) -> FoundType
+// The type of the name, from the order: it can only stand at the name's rank.
+fn find_ordered(words: &[u32], l: Layout, order: &[u32], name: NameNo) -> FoundType
     requires { ⌜ Laid (now words) l ⌝ }
     requires { ⌜ Ordered (now words) (l .types) (now order) ⌝ }
     ensures { λ r. ⌜ r ≡ foundAt (typeNamed (now (words .entry)) (name .0)) (l .types) ⌝ }
@@ -25,4 +26,16 @@ pub fn find_ordered(words: &[u32], l: Layout, order: &[u32], name: NameNo) -> Fo
         return FoundType::At(row);
     }
     FoundType::Nothing
+}
+
+// The type of the name, from the order where one is lent, and else by a walk through the type section.
+pub fn look_up(words: &[u32], l: Layout, order: &[u32], name: NameNo) -> FoundType
+    requires { ⌜ Laid (now words) l ⌝ }
+    requires { ⌜ Helps (now words) (l .types) (now order) ⌝ }
+    ensures { λ r. ⌜ r ≡ foundAt (typeNamed (now (words .entry)) (name .0)) (l .types) ⌝ }
+{
+    if order.len() == 0 {
+        return find_type(words, l, name);
+    }
+    find_ordered(words, l, order, name)
 }

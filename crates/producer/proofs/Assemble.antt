@@ -1,23 +1,26 @@
 -- The six passes one after the other leave the canonical evidence.
-use mathlib.Core.Path.{_≡_, ap, sym, subst, _∙_}
+use mathlib.Core.Path.{_≡_, refl, sym, _∙_}
 use mathlib.Core.Logic.{⊎-elim, _≢_}
 use mathlib.Core.List.{List, _++_}
-use Prim.Native.Nat.{ℕ, zero, _+_, _*_, _-_, _≤_, _<_}
+use Prim.Native.Nat.{ℕ, _+_, _*_, _-_, _≤_, _<_}
 use native.Mathlib.Omega.{arith}
 use lib.ListN.{length, getD, take, drop, replicate, length-take}
-use lib.Seq.{getD-take, getD-drop, drop-drop}
+use lib.Seq.{getD-take}
 use Rattle.chains.specs.Chains.{Graph}
 use Rattle.table.specs.declared.layout.Layout.{Layout}
 use Rattle.table.specs.Layout.{none, typeCount}
+use Rattle.order.specs.Order.{Placed}
 use Rattle.evidence.specs.Words.{evidenceWords, number, leader, outField, outDistance, inField, inDepth}
 use Rattle.evidence.specs.Canonical.{Marks, Marks.on, Marks.off, Row, Canonical}
-use Rattle.producer.specs.Search.{Clear, Cleared}
+use Rattle.producer.specs.Search.{Cleared}
 use Rattle.producer.specs.Produced.{Filled, NumberIs, LeaderIs, DistanceIs, DepthIs, OutIs, InIs, Numbered, Measured, Filling, Ranked, Leveled, Whole, Passed, Rooms, Made}
 use Rattle.rows.specs.Readable.{SoundRows}
 use Rattle.evidence.proofs.ChainLaws.{chained}
-use Rattle.evidence.proofs.TestLaws.{same-or-not, below-or-not}
+use Rattle.evidence.proofs.TestLaws.{same-or-not}
 use Rattle.evidence.proofs.Unique.{Agree, agree-back}
 use Rattle.producer.proofs.Reach.{zeros-cleared}
+use Rattle.producer.proofs.Lookups.{helped-order, helped-kept}
+use Rattle.chains.proofs.HelpLaws.{rest-behind}
 use Rattle.producer.proofs.PassLaws.{led-on, led-off, led-kept, numbered-kept, leader-kept, word-as, cleared-join}
 use Rattle.producer.proofs.ChoiceLaws.{word-none, word-some, measured-kept, column-agree, out-as, in-as}
 
@@ -158,31 +161,6 @@ module _ (g : Graph) where
     unfolding ev
     assembled = record { size = ev-size; row = row }
 
--- the front of the work space that the passes use is the front of a longer one that was cleared
-pub cleared-wide : {a b : ℕ} {W X Y : List ℕ} → a ≤ b → Cleared b W X → Cleared a X Y → Cleared b W Y
-cleared-wide {a} {b} {W} {X} {Y} l c d =
-    let s = d .size in
-    let back : a + (b - a) ≡ b = omega arith in
-    record {
-      clear = record {
-        room = let r = c .clear .room in omega arith;
-        zero = λ i k.
-            ⊎-elim
-            (λ (x : i < a). d .clear .zero i x)
-            (λ x.
-            let e : a + (i - a) ≡ i = omega arith in
-            let y : getD Y i 0 ≡ getD X i 0 = subst (λ (j : ℕ). getD Y j 0 ≡ getD X j 0) e (sym (getD-drop a Y (i - a) 0) ∙ ap (λ (z : List ℕ). getD z (i - a) 0) (d .rest) ∙ getD-drop a X (i - a) 0) in
-            y ∙ c .clear .zero i k)
-            (below-or-not i a);
-      };
-      size = s ∙ c .size;
-      rest = subst (λ (j : ℕ). drop j Y ≡ drop j X) back (sym (drop-drop (b - a) a Y) ∙ ap (drop (b - a)) (d .rest) ∙ drop-drop (b - a) a X) ∙ c .rest;
-    }
-
--- a part of what is clear is clear
-pub clear-fewer : {a b : ℕ} {W : List ℕ} → a ≤ b → Clear b W → Clear a W
-clear-fewer l c = let r = c .room in record { room = omega arith; zero = λ i k. c .zero i (omega arith) }
-
 -- with all of these, the fields
 pub fitted : (g : Graph) {O X Y W W′ W″ : List ℕ} → g .types ≤ none → evidenceWords * g .types ≤ length O → Leveled g O
     → Filled 2 (g .types) (g .types) (OutIs g O) O X → Filled 4 (g .types) (g .types) (InIs g X) X Y
@@ -196,26 +174,63 @@ fitted g {O} {X} {Y} few room h f₂ f₄ c d =
       cleared = cleared-join c d;
     }
 
--- the words that the code cleared
-pub cleared-first : {w : List ℕ} {l : Layout} {O W Y : List ℕ} → SoundRows w l → Rooms (typeCount w) W O
-    → Y ≡ replicate (evidenceWords * l .types) 0 ++ drop (evidenceWords * l .types) W → Cleared (evidenceWords * typeCount w) W Y
-cleared-first {w} {l} {O} {W} s r e = rw (e, chained s .types) (zeros-cleared (evidenceWords * typeCount w) W (r .work-room))
+-- before the passes the words of the search are cleared, and the types are sorted in those behind
+module _ {w : List ℕ} {l : Layout} {O W Y : List ℕ} (s : SoundRows w l) (r : Rooms (typeCount w) W O)
+    (e : Y ≡ replicate (2 * l .types) 0 ++ drop (2 * l .types) W) where
+  cleared-first : Cleared (2 * typeCount w) W Y
+  cleared-first = let m = r .work-room in rw (e, chained s .types) (zeros-cleared (2 * typeCount w) W (omega arith))
 
--- the passes may begin there
-pub filling-first : {w : List ℕ} {l : Layout} {O W Y : List ℕ} → SoundRows w l → Rooms (typeCount w) W O
-    → Y ≡ replicate (evidenceWords * l .types) 0 ++ drop (evidenceWords * l .types) W → Filling w l Y O
-filling-first s r e = record { chained = chained s; clear = clear-fewer (omega arith) (cleared-first s r e .clear); room = r .out-room }
+  pub first-room : evidenceWords * l .types ≤ length Y
+  first-room = omega (arith, r .work-room, cleared-first .size, chained s .types)
 
--- and leave room for the next
+  module _ {X : List ℕ} (there : Placed w (l .types) (2 * l .types) Y X) where
+    -- so the passes may begin
+    pub filling-first : Filling w l X O
+    filling-first =
+        let t = chained s .types in
+        let c = cleared-first .clear in
+        let z = there .same-length in
+        record {
+          chained = chained s;
+          clear = record { room = omega (arith, c .room); zero = λ i k. there .front i (omega arith) ∙ c .zero i k };
+          help = helped-order w _ (l .types) t (there .ordered);
+          room = r .out-room;
+        }
+
+    -- after them both are cleared, and the words behind are those of the start
+    module _ {Z : List ℕ} (c : Cleared (2 * typeCount w) X Z) where
+      pub last-size : length Z ≡ length W
+      last-size = c .size ∙ there .same-length ∙ cleared-first .size
+
+      pub cleared-last : replicate (evidenceWords * l .types) 0 ++ drop (evidenceWords * l .types) Z
+          ≡ replicate (evidenceWords * typeCount w) 0 ++ drop (evidenceWords * typeCount w) W
+      cleared-last =
+          let t = chained s .types in
+          let end : ℕ = evidenceWords * typeCount w in
+          let x : drop end Z ≡ drop end X = rest-behind (2 * typeCount w) end X Z (omega arith) (c .rest) in
+          let y : drop end X ≡ drop end Y = rest-behind (2 * l .types + l .types) end Y X (omega arith) (there .behind) in
+          let z : drop end Y ≡ drop end W = rest-behind (2 * typeCount w) end W Y (omega arith) (cleared-first .rest) in
+          rw (t, x ∙ y ∙ z) refl
+
+-- a pass leaves room for the next
 pub filling-after : {w : List ℕ} {l : Layout} {Right : List ℕ → Type 0} {O X W Y : List ℕ} → Filling w l W O → Passed (typeCount w) Right O X W Y → Filling w l Y X
-filling-after f p = let e = p .size in let r = f .room in record { chained = f .chained; clear = p .cleared .clear; room = omega arith }
+filling-after f p =
+    let e = p .size in
+    let r = f .room in
+    record { chained = f .chained; clear = p .cleared .clear; help = helped-kept _ _ _ (p .cleared .rest) (f .help); room = omega arith }
 
 -- the same after one pass
 pub filling-next : {w : List ℕ} {l : Layout} {c : ℕ} {Is : ℕ → ℕ → Type 0} {O X W Y : List ℕ} → Filling w l W O
     → Filled c (typeCount w) (typeCount w) Is O X → Cleared (2 * typeCount w) W Y → Filling w l Y X
-filling-next f p c = let e = p .column .size in let r = f .room in record { chained = f .chained; clear = c .clear; room = omega arith }
+filling-next f p c =
+    let e = p .column .size in
+    let r = f .room in
+    record { chained = f .chained; clear = c .clear; help = helped-kept _ _ _ (c .rest) (f .help); room = omega arith }
 
--- one after the other they make the table
-pub made : (g : Graph) {A B : List ℕ → Type 0} {O X Y Z W W′ W″ W‴ : List ℕ} → Passed (g .types) A O X W W′ → Passed (g .types) B X Y W′ W″
-    → Passed (g .types) (Whole g) Y Z W″ W‴ → Made g O Z
-made g a b c = record { canonical = c .right; size = c .size ∙ b .size ∙ a .size; rest = c .rest ∙ b .rest ∙ a .rest }
+-- one after the other they are as one
+pub passed-join : {n : ℕ} {A B : List ℕ → Type 0} {O X Y W W′ W″ : List ℕ} → Passed n A O X W W′ → Passed n B X Y W′ W″ → Passed n B O Y W W″
+passed-join a b = record { right = b .right; size = b .size ∙ a .size; rest = b .rest ∙ a .rest; cleared = cleared-join (a .cleared) (b .cleared) }
+
+-- and make the table
+pub made : (g : Graph) {O X W Y : List ℕ} → Passed (g .types) (Whole g) O X W Y → Made g O X
+made g p = record { canonical = p .right; size = p .size; rest = p .rest }

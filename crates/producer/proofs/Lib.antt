@@ -1,4 +1,5 @@
 pub mod Reach
+pub mod Lookups
 pub mod Levels
 pub mod PassLaws
 pub mod ChoiceLaws

@@ -1,13 +1,13 @@
 -- Laws of the search: it begins with no marks, marks one type more, joins its steps, and at its end all types reached are marked.
 --
-use mathlib.Core.Path.{_≡_, refl, ap, ap₂, sym, subst, _∙_}
+use mathlib.Core.Path.{_≡_, refl, ap, sym, subst, _∙_}
 use mathlib.Core.Logic.{inl, inr, ⊎-elim, _≢_}
 use mathlib.Core.List.{List, _++_}
 use Prim.Native.Nat.{ℕ, suc, zero, _+_, _*_, _≤_, _<_}
 use native.Mathlib.Omega.{arith}
 use native.Mathlib.Numerals.{add-one}
-use lib.ListN.{length, getD, set, take, drop, replicate, length-set, length-append, length-replicate, length-take, length-drop, take-append-drop, List·getD-append, getD-replicate}
-use lib.Seq.{getD-set-same, getD-set-other, getD-take, drop-set-lt, drop-at, ext-getD}
+use lib.ListN.{length, getD, set, drop, replicate, length-set, length-append, length-replicate, length-drop, List·getD-append, getD-replicate}
+use lib.Seq.{getD-set-same, getD-set-other, drop-set-lt, drop-at}
 use Rattle.chains.specs.Chains.{Graph}
 use Rattle.evidence.specs.Canonical.{Count, Count.empty, Count.with, Count.without, Way.more}
 use Rattle.producer.specs.Search.{MarkedIn, Listed, Grown, Entered, Visited, Cleared}
@@ -224,20 +224,3 @@ zeros-cleared n W h =
       size = s;
       rest = drop-at zeros (drop n W) n z;
     }
-
--- clearing determines every word
-pub one-work : {n : ℕ} {W X Y : List ℕ} → Cleared n W X → Cleared n W Y → X ≡ Y
-one-work {n} {W} {X} {Y} a b =
-    let e : length X ≡ length Y = a .size ∙ sym (b .size) in
-    let front : take n X ≡ take n Y =
-    ext-getD 0 (take n X) (take n Y) (length-take n X ∙ omega arith ∙ sym (length-take n Y))
-    (λ i l. let h : i < n = omega (arith, length-take n X) in
-    getD-take n X i 0 h ∙ a .clear .zero i h ∙ sym (b .clear .zero i h) ∙ sym (getD-take n Y i 0 h)) in
-    sym (take-append-drop n X) ∙ ap₂ _++_ front (a .rest ∙ sym (b .rest)) ∙ take-append-drop n Y
-
--- so cleared words are these
-pub cleared-zeros : {n : ℕ} {W X : List ℕ} → Cleared n W X → X ≡ replicate n 0 ++ drop n W
-cleared-zeros {n} {W} {X} c =
-    let s = c .size in
-    let r = c .clear .room in
-    one-work c (zeros-cleared n W (omega arith))

@@ -17,7 +17,7 @@ use Rattle.evidence.specs.Rules.{any, goesOut, comesIn}
 use Rattle.evidence.specs.Reaches.{Reaches, OnClosedChain}
 use Rattle.evidence.specs.Canonical.{Count, Least, Way, Other, Mutual, Canonical}
 use Rattle.evidence.specs.Chained.{Chained}
-use Rattle.producer.specs.Search.{Clear, Cleared}
+use Rattle.producer.specs.Search.{Helped, Clear, Cleared}
 
 -- v, for a type that is marked, and else NONE
 pub data Word (ev : List ℕ) (t : ℕ) (P : ℕ → Type 0) : ℕ → Type 0 where
@@ -80,16 +80,11 @@ pub data FirstBack (p : ℕ → Bool) (t : ℕ) : ℕ → Type 0 where
 abbrev pub LevelIs : (g : Graph) (s u : ℕ) → ℕ → Type 0
 LevelIs g s u r = Reaches g s u → u ≢ s → Least (λ k. Way g u k s) r
 
--- a search from t may begin
-pub record Ready (w : List ℕ) (l : Layout) (t : ℕ) (W : List ℕ) : Type 0 where
-  pub chained : Chained w l
-  pub low : t < l .types
-  pub clear : Clear (2 * typeCount w) W
-
 -- a word of every row may be written
 pub record Filling (w : List ℕ) (l : Layout) (W O : List ℕ) : Type 0 where
   pub chained : Chained w l
   pub clear : Clear (2 * typeCount w) W
+  pub help : Helped w W
   pub room : evidenceWords * typeCount w ≤ length O
 
 -- the numbers of a table are right

@@ -1,15 +1,19 @@
 -- The search for the types that chain fields reach from a type, step by step: what the functions that search promise each other.
 --
 -- W is the work words: type u is marked where word u is not 0, which is then its level, the number of fields on the way to it. The
--- marked types are listed from word `types` on, n of them.
+-- marked types are listed from word `types` on, n of them. Behind two words for each type stands the order of the types, to look them up.
 use mathlib.Core.Path.{_≡_}
 use mathlib.Core.Logic.{_⊎_, _≢_, _↔_}
 use mathlib.Core.List.{List}
 use Prim.Native.Nat.{ℕ, _+_, _*_, _≤_, _<_}
 use lib.ListN.{length, getD, drop}
+use Rattle.table.specs.declared.layout.Layout.{Layout}
+use Rattle.table.specs.Layout.{typeCount}
+use Rattle.order.specs.Order.{Helps}
 use Rattle.chains.specs.Chains.{Graph, Chain}
 use Rattle.evidence.specs.Reaches.{Reaches}
 use Rattle.evidence.specs.Canonical.{Count, Least, Way}
+use Rattle.evidence.specs.Chained.{Chained}
 
 -- type u is marked
 abbrev pub MarkedIn : List ℕ → ℕ → Type 0
@@ -23,10 +27,15 @@ pub record Listed (types : ℕ) (W : List ℕ) (n : ℕ) : Type 0 where
   pub types-only : (i : ℕ) → i < n → getD W (types + i) 0 < types
   pub marked : (i : ℕ) → i < n → MarkedIn W (getD W (types + i) 0)
 
--- a type may be marked at level k, behind the n that are listed
-pub record Entering (types k : ℕ) (W : List ℕ) (n : ℕ) : Type 0 where
-  pub listed : Listed types W n
+-- the words behind those of the search help to look types up
+abbrev pub Helped : List ℕ → List ℕ → Type 0
+Helped w W = Helps w (typeCount w) (drop (2 * typeCount w) W)
+
+-- a type may be looked up, and marked at level k, behind the n that are listed
+pub record Entering (w : List ℕ) (k : ℕ) (W : List ℕ) (n : ℕ) : Type 0 where
+  pub listed : Listed (typeCount w) W n
   pub some : 0 < k
+  pub help : Helped w W
 
 -- more types may be marked and listed behind those that were, and all else is as it was
 pub record Grown (types : ℕ) (W : List ℕ) (n : ℕ) (X : List ℕ) (m : ℕ) : Type 0 where
@@ -65,6 +74,13 @@ module _ (g : Graph) where
 pub record Clear (n : ℕ) (W : List ℕ) : Type 0 where
   pub room : n ≤ length W
   pub zero : (i : ℕ) → i < n → getD W i 0 ≡ 0
+
+-- a search from t may begin
+pub record Ready (w : List ℕ) (l : Layout) (t : ℕ) (W : List ℕ) : Type 0 where
+  pub chained : Chained w l
+  pub low : t < l .types
+  pub clear : Clear (2 * typeCount w) W
+  pub help : Helped w W
 
 -- the first n words were set to 0, and the rest is as it was
 pub record Cleared (n : ℕ) (W X : List ℕ) : Type 0 where

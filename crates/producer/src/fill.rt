@@ -4,8 +4,8 @@ ghost use Prim.Native.Nat.{ℕ, _*_, _<_};
 ghost use Rattle.table.specs.Layout.{typeCount};
 ghost use Rattle.chains.specs.Fields.{chainGraph};
 ghost use Rattle.evidence.specs.Words.{placeOf};
-ghost use Rattle.producer.specs.Search.{Cleared};
-ghost use Rattle.producer.specs.Produced.{Ready, Filling, Known, WordIs, Filled, Ranked, Leveled, Whole, Passed};
+ghost use Rattle.producer.specs.Search.{Ready, Cleared};
+ghost use Rattle.producer.specs.Produced.{Filling, Known, WordIs, Filled, Ranked, Leveled, Whole, Passed};
 use crate::fitting::in_field_of;
 use crate::fitting::out_field_of;
 use crate::measure::depth_of;
@@ -30,13 +30,14 @@ fn word_for(
     ensures { λ r. ⌜ WordIs (chainGraph (now (words .entry))) k (now (out .entry)) (t .0) r ⌝ }
     ensures { λ r. ⌜ Cleared (2 * typeCount (now (words .entry))) (now (work .entry)) (now (work .exit)) ⌝ }
 {
+    let order_at = 2 * l.types; // behind the words of the search
     match k {
         EvidenceWord::Number => number_of(words, l, t, work),
         EvidenceWord::Leader => leader_of(words, l, t, work, out).0,
         EvidenceWord::OutDistance => distance_of(words, l, t, work, out),
         EvidenceWord::InDepth => depth_of(words, l, t, work, out),
-        EvidenceWord::OutField => out_field_of(words, l, t, out),
-        EvidenceWord::InField => in_field_of(words, l, t, out),
+        EvidenceWord::OutField => out_field_of(words, l, &work[order_at..], t, out),
+        EvidenceWord::InField => in_field_of(words, l, &work[order_at..], t, out),
     }
 }
 
@@ -58,7 +59,7 @@ fn fill(words: &[u32], l: Layout, k: EvidenceWord, work: &mut [u32], out: &mut [
 }
 
 // Numbers, and with them the leaders.
-pub fn fill_leaders(words: &[u32], l: Layout, work: &mut [u32], out: &mut [u32])
+fn fill_leaders(words: &[u32], l: Layout, work: &mut [u32], out: &mut [u32])
     requires { ⌜ Filling (now words) l (now work) (now out) ⌝ }
     ensures { λ _. ⌜ Passed (typeCount (now (words .entry))) (Ranked (chainGraph (now (words .entry)))) (now (out .entry)) (now (out .exit)) (now (work .entry)) (now (work .exit)) ⌝ }
 {
@@ -67,7 +68,7 @@ pub fn fill_leaders(words: &[u32], l: Layout, work: &mut [u32], out: &mut [u32])
 }
 
 // With the leaders, distances and depths.
-pub fn fill_levels(words: &[u32], l: Layout, work: &mut [u32], out: &mut [u32])
+fn fill_levels(words: &[u32], l: Layout, work: &mut [u32], out: &mut [u32])
     requires { ⌜ Filling (now words) l (now work) (now out) ⌝ }
     requires { ⌜ Ranked (chainGraph (now words)) (now out) ⌝ }
     ensures { λ _. ⌜ Passed (typeCount (now (words .entry))) (Leveled (chainGraph (now (words .entry)))) (now (out .entry)) (now (out .exit)) (now (work .entry)) (now (work .exit)) ⌝ }
@@ -77,11 +78,21 @@ pub fn fill_levels(words: &[u32], l: Layout, work: &mut [u32], out: &mut [u32])
 }
 
 // With all of these, the fields that fit.
-pub fn fill_fields(words: &[u32], l: Layout, work: &mut [u32], out: &mut [u32])
+fn fill_fields(words: &[u32], l: Layout, work: &mut [u32], out: &mut [u32])
     requires { ⌜ Filling (now words) l (now work) (now out) ⌝ }
     requires { ⌜ Leveled (chainGraph (now words)) (now out) ⌝ }
     ensures { λ _. ⌜ Passed (typeCount (now (words .entry))) (Whole (chainGraph (now (words .entry)))) (now (out .entry)) (now (out .exit)) (now (work .entry)) (now (work .exit)) ⌝ }
 {
     fill(words, l, EvidenceWord::OutField, work, out);
     fill(words, l, EvidenceWord::InField, work, out);
+}
+
+// All six words, each after those that it needs.
+pub fn fill_all(words: &[u32], l: Layout, work: &mut [u32], out: &mut [u32])
+    requires { ⌜ Filling (now words) l (now work) (now out) ⌝ }
+    ensures { λ _. ⌜ Passed (typeCount (now (words .entry))) (Whole (chainGraph (now (words .entry)))) (now (out .entry)) (now (out .exit)) (now (work .entry)) (now (work .exit)) ⌝ }
+{
+    fill_leaders(words, l, work, out);
+    fill_levels(words, l, work, out);
+    fill_fields(words, l, work, out);
 }

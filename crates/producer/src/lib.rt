@@ -6,22 +6,24 @@
 //
 // One word of every row is written at a time, in an order in which each finds the words that it needs. A word takes at most one search
 // through the chain fields from one type, so all of them take as many steps as there are types times fields, and a few times that. A matrix
-// of what reaches what is not needed: among the types that t reaches, those with its number are those that reach it back. The search
-// takes two work words a type, and leaves them 0.
+// of what reaches what is not needed: among the types that t reaches, those with its number are those that reach it back.
+//
+// The search takes two work words a type. A third holds the types in the order of their names, so that the type that a field names is
+// found in a few steps. All of them are left 0.
 ghost use mathlib.Core.Path.{_≡_};
 ghost use mathlib.Core.List.{_++_};
 ghost use Prim.Native.Nat.{ℕ, _*_};
 ghost use lib.ListN.{drop, replicate};
 ghost use Rattle.table.specs.Layout.{typeCount};
 ghost use Rattle.rows.specs.Readable.{SoundRows};
+ghost use Rattle.order.specs.Order.{TypesApart};
 ghost use Rattle.chains.specs.Fields.{chainGraph};
 ghost use Rattle.evidence.specs.Words.{evidenceWords};
 ghost use Rattle.producer.specs.Produced.{Rooms, Made};
-use crate::fill::fill_fields;
-use crate::fill::fill_leaders;
-use crate::fill::fill_levels;
+use crate::fill::fill_all;
 use chains::cycle::clear;
 use evidence::row::EvidenceWord;
+use order::sort::sort_from;
 use table::layout::Layout;
 
 mod fill;
@@ -33,11 +35,12 @@ mod search;
 pub fn make_evidence(words: &[u32], l: Layout, work: &mut [u32], out: &mut [u32])
     requires { ⌜ SoundRows (now words) l ⌝ }
     requires { ⌜ Rooms (typeCount (now words)) (now work) (now out) ⌝ }
+    requires { ⌜ TypesApart (now words) ⌝ }
     ensures { λ _. ⌜ Made (chainGraph (now (words .entry))) (now (out .entry)) (now (out .exit)) ⌝ }
     ensures { λ _. ⌜ now (work .exit) ≡ replicate (evidenceWords * typeCount (now (words .entry))) 0 ++ drop (evidenceWords * typeCount (now (words .entry))) (now (work .entry)) ⌝ }
 {
+    clear(work, 2 * l.types);
+    sort_from(words, l, work, 2 * l.types);
+    fill_all(words, l, work, out);
     clear(work, EvidenceWord::COUNT * l.types);
-    fill_leaders(words, l, work, out);
-    fill_levels(words, l, work, out);
-    fill_fields(words, l, work, out);
 }

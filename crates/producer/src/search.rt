@@ -1,15 +1,14 @@
 // The search for the types that chain fields reach from a type, each entered once, nearest first.
 //
-// The work words hold for each type its level, the number of fields on the way to it, or 0 where it is not marked; and behind
-// these the list of the marked types.
+// The work words hold for each type its level, the number of fields on the way to it, or 0 where it is not marked; behind these the
+// list of the marked types; and behind that the order of the types, in which the type that a field names is looked up.
 ghost use mathlib.Core.Path.{_≡_};
 ghost use Prim.Native.Nat.{ℕ, _+_, _*_, _<_, _≤_};
 ghost use lib.ListN.{length, getD};
 ghost use Rattle.table.specs.Layout.{mostTypes};
-ghost use Rattle.table.specs.Layout.{typeCount};
 ghost use Rattle.chains.specs.Fields.{chainsEnd, chainGraph};
 ghost use Rattle.evidence.specs.Chained.{Chained};
-ghost use Rattle.producer.specs.Search.{Entering, Entered, Visited, Searched, Clear, Cleared};
+ghost use Rattle.producer.specs.Search.{Entering, Entered, Visited, Ready, Searched, Cleared};
 use chains::cycle::clear;
 use chains::fields::chains_end;
 use chains::fields::target;
@@ -21,11 +20,12 @@ use table::layout::Layout;
 fn enter(words: &[u32], l: Layout, f: usize, level: u32, n: usize, work: &mut [u32]) -> usize
     requires { ⌜ Chained (now words) l ⌝ }
     requires { ⌜ f < l .fields ⌝ }
-    requires { ⌜ Entering (typeCount (now words)) level (now work) n ⌝ }
+    requires { ⌜ Entering (now words) level (now work) n ⌝ }
     ensures { λ m. ⌜ Entered (chainGraph (now (words .entry))) f level (now (work .entry)) n (now (work .exit)) m ⌝ }
 {
     let types = l.types;
-    let u = target(words, l, f);
+    let order = 2 * types;
+    let u = target(words, l, &work[order..], f);
     if types <= u {
         return n;
     }
@@ -41,7 +41,7 @@ fn enter(words: &[u32], l: Layout, f: usize, level: u32, n: usize, work: &mut [u
 fn visit(words: &[u32], l: Layout, s: TypeRow, level: u32, listed: usize, work: &mut [u32]) -> usize
     requires { ⌜ Chained (now words) l ⌝ }
     requires { ⌜ s .0 < l .types ⌝ }
-    requires { ⌜ Entering (typeCount (now words)) level (now work) listed ⌝ }
+    requires { ⌜ Entering (now words) level (now work) listed ⌝ }
     ensures { λ m. ⌜ Visited (chainGraph (now (words .entry))) (s .0) (chainsEnd (now (words .entry)) (s .0)) level (now (work .entry)) listed (now (work .exit)) m ⌝ }
 {
     let row = s.0; // what the loop does is said of this number
@@ -57,9 +57,7 @@ fn visit(words: &[u32], l: Layout, s: TypeRow, level: u32, listed: usize, work: 
 
 // Marks and lists the types that chain fields reach from t, and returns how many those are.
 pub fn search(words: &[u32], l: Layout, t: TypeRow, work: &mut [u32]) -> usize
-    requires { ⌜ Chained (now words) l ⌝ }
-    requires { ⌜ t .0 < l .types ⌝ }
-    requires { ⌜ Clear (2 * typeCount (now words)) (now work) ⌝ }
+    requires { ⌜ Ready (now words) l (t .0) (now work) ⌝ }
     ensures { λ n. ⌜ Searched (chainGraph (now (words .entry))) (t .0) (now (work .entry)) (now (work .exit)) n ⌝ }
     ensures { λ n. ⌜ n ≤ l .types ⌝ }
 {

@@ -52,7 +52,7 @@ fn search(label: &[u8], text: &[u8], words: &[u32], t: u32, work: &mut [u32], ou
         return;
     }
     clear(work, marks);
-    let n = first_cycle(words, l, TypeRow(t), work, out);
+    let n = first_cycle(words, l, TypeRow(t), &mut work[..marks], out);
     print(n);
     if n <= out.len() {
         print(in_order(&out[..n], t));

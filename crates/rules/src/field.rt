@@ -6,6 +6,7 @@ ghost use Rattle.records.specs.Records.{Emitted};
 ghost use Rattle.records.specs.Rows.{atField};
 ghost use Rattle.rows.specs.Parts.{fieldRows, argumentsOf};
 ghost use Rattle.rows.specs.Readable.{Readable, FieldPart};
+ghost use Rattle.order.specs.Order.{Helps};
 ghost use Rattle.rules.specs.Names.{nameRecord};
 ghost use Rattle.rules.specs.InputObject.{argumentsRecords};
 ghost use Rattle.rules.specs.Field.{outputTypeRecord, fieldRecord, fieldsRecords};
@@ -13,6 +14,7 @@ ghost use Rattle.rules.specs.Bounds.{mostOfArguments, mostOfField};
 ghost use Rattle.table.specs.Layout.{mostFields};
 use crate::input_object::validate_argument_definitions;
 use crate::type_system_name::validate_type_system_name;
+use order::find::look_up;
 use records::Place;
 use records::Record;
 use records::put;
@@ -26,7 +28,6 @@ use rows::parts::arguments_of;
 use rows::parts::arguments_start;
 use rows::spelling::is_builtin;
 use rows::types::FoundType;
-use rows::types::find_type;
 use rows::types::type_kind;
 use table::kinds::Kind;
 use table::layout::Layout;
@@ -36,6 +37,7 @@ fn validate_output_type(
     text: &[u8],
     words: &[u32],
     l: Layout,
+    order: &[u32],
     t: TypeRow,
     name: NameNo,
     row: u32,
@@ -43,10 +45,11 @@ fn validate_output_type(
 ) -> usize
     requires { ⌜ Readable (now text) (now words) l ⌝ }
     requires { ⌜ name .0 < l .names ⌝ }
+    requires { ⌜ Helps (now words) (l .types) (now order) ⌝ }
     ensures { λ n. ⌜ Emitted (outputTypeRecord (now (text .entry)) (now (words .entry)) (t .0) (name .0) row) (now (out .entry)) (now (out .exit)) n ⌝ }
     ensures { λ n. ⌜ n ≤ 1 ⌝ }
 {
-    match find_type(words, l, name) {
+    match look_up(words, l, order, name) {
         FoundType::Nothing => {
             if is_builtin(text, words, l, name) {
                 return 0;
@@ -70,6 +73,7 @@ fn validate_field_definition(
     text: &[u8],
     words: &[u32],
     l: Layout,
+    order: &[u32],
     t: TypeRow,
     name: NameNo,
     f: usize,
@@ -77,6 +81,7 @@ fn validate_field_definition(
 ) -> usize
     requires { ⌜ Readable (now text) (now words) l ⌝ }
     requires { ⌜ (t .0 < l .types) × (name .0 < l .names) × (f < l .fields) ⌝ }
+    requires { ⌜ Helps (now words) (l .types) (now order) ⌝ }
     ensures { λ n. ⌜ Emitted (nameRecord (now (text .entry)) (now (words .entry)) (t .0) (name .0) atField f ++ argumentsRecords (now (text .entry)) (now (words .entry)) (t .0) (argumentsStart (now (words .entry)) f) (argumentsOf (now (words .entry)) f)) (now (out .entry)) (now (out .exit)) n ⌝ }
     ensures { λ n. ⌜ n ≤ mostOfArguments + 1 ⌝ }
 {
@@ -88,6 +93,7 @@ fn validate_field_definition(
             text,
             words,
             l,
+            order,
             t,
             first,
             arguments_of(words, l, f),
@@ -100,6 +106,7 @@ fn validate_field(
     text: &[u8],
     words: &[u32],
     l: Layout,
+    order: &[u32],
     t: TypeRow,
     first: usize,
     fields: &[u32],
@@ -109,17 +116,19 @@ fn validate_field(
     requires { ⌜ Readable (now text) (now words) l ⌝ }
     requires { ⌜ (t .0 < l .types) × (i < fieldRows (now fields)) ⌝ }
     requires { ⌜ FieldPart l first (now fields) ⌝ }
+    requires { ⌜ Helps (now words) (l .types) (now order) ⌝ }
     ensures { λ n. ⌜ Emitted (fieldRecord (now (text .entry)) (now (words .entry)) (t .0) first (now (fields .entry)) i) (now (out .entry)) (now (out .exit)) n ⌝ }
     ensures { λ n. ⌜ n ≤ mostOfField ⌝ }
 {
     let f = first + i;
-    let n = validate_field_definition(text, words, l, t, field_name(fields, i), f, out);
+    let n = validate_field_definition(text, words, l, order, t, field_name(fields, i), f, out);
     let at = used(n, out.len());
     n
         + validate_output_type(
             text,
             words,
             l,
+            order,
             t,
             field_type(fields, i),
             f as u32,
@@ -131,6 +140,7 @@ pub fn validate_field_definitions(
     text: &[u8],
     words: &[u32],
     l: Layout,
+    order: &[u32],
     t: TypeRow,
     first: usize,
     fields: &[u32],
@@ -139,6 +149,7 @@ pub fn validate_field_definitions(
     requires { ⌜ Readable (now text) (now words) l ⌝ }
     requires { ⌜ t .0 < l .types ⌝ }
     requires { ⌜ FieldPart l first (now fields) ⌝ }
+    requires { ⌜ Helps (now words) (l .types) (now order) ⌝ }
     ensures { λ n. ⌜ Emitted (fieldsRecords (now (text .entry)) (now (words .entry)) (t .0) first (now (fields .entry))) (now (out .entry)) (now (out .exit)) n ⌝ }
     ensures { λ n. ⌜ n ≤ mostOfField * mostFields ⌝ }
 {
@@ -147,7 +158,7 @@ pub fn validate_field_definitions(
     let mut i = 0;
     while i < rows {
         let at = used(n, out.len());
-        n += validate_field(text, words, l, t, first, fields, i, &mut out[at..]);
+        n += validate_field(text, words, l, order, t, first, fields, i, &mut out[at..]);
         i += 1;
     }
     n

@@ -5,11 +5,13 @@ ghost use Prim.Native.Nat.{_+_, _*_, _≤_, _<_};
 ghost use Rattle.records.specs.Records.{Emitted, each};
 ghost use Rattle.rows.specs.Parts.{fieldRows, argumentRows};
 ghost use Rattle.rows.specs.Readable.{Readable, FieldPart, ArgumentPart};
+ghost use Rattle.order.specs.Order.{Helps};
 ghost use Rattle.rules.specs.Names.{nameRecord};
 ghost use Rattle.rules.specs.InputObject.{inputKind, inputTypeRecord, argumentRecord, repeatRecord, argumentsRecords, cycleRecord, inputFieldRecord, inputFieldsRecords, inputObjectRecords};
 ghost use Rattle.rules.specs.Bounds.{mostOfArguments};
 ghost use Rattle.table.specs.Layout.{mostArguments, mostFields};
 use crate::type_system_name::validate_type_system_name;
+use order::find::look_up;
 use records::Place;
 use records::Record;
 use records::put;
@@ -26,7 +28,6 @@ use rows::search::Found;
 use rows::search::find_argument;
 use rows::spelling::is_builtin;
 use rows::types::FoundType;
-use rows::types::find_type;
 use rows::types::type_kind;
 use table::kinds::Kind;
 use table::layout::Layout;
@@ -43,6 +44,7 @@ fn validate_input_type(
     text: &[u8],
     words: &[u32],
     l: Layout,
+    order: &[u32],
     t: TypeRow,
     name: NameNo,
     place: Place,
@@ -51,10 +53,11 @@ fn validate_input_type(
 ) -> usize
     requires { ⌜ Readable (now text) (now words) l ⌝ }
     requires { ⌜ name .0 < l .names ⌝ }
+    requires { ⌜ Helps (now words) (l .types) (now order) ⌝ }
     ensures { λ n. ⌜ Emitted (inputTypeRecord (now (text .entry)) (now (words .entry)) (t .0) (name .0) (place .0) row) (now (out .entry)) (now (out .exit)) n ⌝ }
     ensures { λ n. ⌜ n ≤ 1 ⌝ }
 {
-    match find_type(words, l, name) {
+    match look_up(words, l, order, name) {
         FoundType::Nothing => {
             if is_builtin(text, words, l, name) {
                 return 0;
@@ -75,6 +78,7 @@ fn validate_input_value(
     text: &[u8],
     words: &[u32],
     l: Layout,
+    order: &[u32],
     t: TypeRow,
     name: NameNo,
     ty: NameNo,
@@ -84,18 +88,20 @@ fn validate_input_value(
 ) -> usize
     requires { ⌜ Readable (now text) (now words) l ⌝ }
     requires { ⌜ (t .0 < l .types) × (name .0 < l .names) × (ty .0 < l .names) ⌝ }
+    requires { ⌜ Helps (now words) (l .types) (now order) ⌝ }
     ensures { λ n. ⌜ Emitted (nameRecord (now (text .entry)) (now (words .entry)) (t .0) (name .0) (place .0) row ++ inputTypeRecord (now (text .entry)) (now (words .entry)) (t .0) (ty .0) (place .0) row) (now (out .entry)) (now (out .exit)) n ⌝ }
     ensures { λ n. ⌜ n ≤ 2 ⌝ }
 {
     let n = validate_type_system_name(text, words, l, t, name, place, row, out);
     let at = used(n, out.len());
-    n + validate_input_type(text, words, l, t, ty, place, row, &mut out[at..])
+    n + validate_input_type(text, words, l, order, t, ty, place, row, &mut out[at..])
 }
 
 fn validate_argument_values(
     text: &[u8],
     words: &[u32],
     l: Layout,
+    order: &[u32],
     t: TypeRow,
     first: usize,
     arguments: &[u32],
@@ -104,6 +110,7 @@ fn validate_argument_values(
     requires { ⌜ Readable (now text) (now words) l ⌝ }
     requires { ⌜ t .0 < l .types ⌝ }
     requires { ⌜ ArgumentPart l first (now arguments) ⌝ }
+    requires { ⌜ Helps (now words) (l .types) (now order) ⌝ }
     ensures { λ n. ⌜ Emitted (each (argumentRecord (now (text .entry)) (now (words .entry)) (t .0) first (now (arguments .entry))) (argumentRows (now (arguments .entry)))) (now (out .entry)) (now (out .exit)) n ⌝ }
     ensures { λ n. ⌜ n ≤ 2 * mostArguments ⌝ }
 {
@@ -118,6 +125,7 @@ fn validate_argument_values(
             text,
             words,
             l,
+            order,
             t,
             name,
             ty,
@@ -175,6 +183,7 @@ pub fn validate_argument_definitions(
     text: &[u8],
     words: &[u32],
     l: Layout,
+    order: &[u32],
     t: TypeRow,
     first: usize,
     arguments: &[u32],
@@ -183,10 +192,11 @@ pub fn validate_argument_definitions(
     requires { ⌜ Readable (now text) (now words) l ⌝ }
     requires { ⌜ t .0 < l .types ⌝ }
     requires { ⌜ ArgumentPart l first (now arguments) ⌝ }
+    requires { ⌜ Helps (now words) (l .types) (now order) ⌝ }
     ensures { λ n. ⌜ Emitted (argumentsRecords (now (text .entry)) (now (words .entry)) (t .0) first (now (arguments .entry))) (now (out .entry)) (now (out .exit)) n ⌝ }
     ensures { λ n. ⌜ n ≤ mostOfArguments ⌝ }
 {
-    let n = validate_argument_values(text, words, l, t, first, arguments, out);
+    let n = validate_argument_values(text, words, l, order, t, first, arguments, out);
     let at = used(n, out.len());
     n + validate_unique_arguments(t, first, arguments, &mut out[at..])
 }
@@ -195,6 +205,7 @@ fn validate_input_values(
     text: &[u8],
     words: &[u32],
     l: Layout,
+    order: &[u32],
     t: TypeRow,
     first: usize,
     fields: &[u32],
@@ -203,6 +214,7 @@ fn validate_input_values(
     requires { ⌜ Readable (now text) (now words) l ⌝ }
     requires { ⌜ t .0 < l .types ⌝ }
     requires { ⌜ FieldPart l first (now fields) ⌝ }
+    requires { ⌜ Helps (now words) (l .types) (now order) ⌝ }
     ensures { λ n. ⌜ Emitted (each (inputFieldRecord (now (text .entry)) (now (words .entry)) (t .0) first (now (fields .entry))) (fieldRows (now (fields .entry)))) (now (out .entry)) (now (out .exit)) n ⌝ }
     ensures { λ n. ⌜ n ≤ 2 * mostFields ⌝ }
 {
@@ -217,6 +229,7 @@ fn validate_input_values(
             text,
             words,
             l,
+            order,
             t,
             name,
             ty,
@@ -234,6 +247,7 @@ fn validate_input_fields(
     text: &[u8],
     words: &[u32],
     l: Layout,
+    order: &[u32],
     t: TypeRow,
     first: usize,
     fields: &[u32],
@@ -242,10 +256,11 @@ fn validate_input_fields(
     requires { ⌜ Readable (now text) (now words) l ⌝ }
     requires { ⌜ t .0 < l .types ⌝ }
     requires { ⌜ FieldPart l first (now fields) ⌝ }
+    requires { ⌜ Helps (now words) (l .types) (now order) ⌝ }
     ensures { λ n. ⌜ Emitted (inputFieldsRecords (now (text .entry)) (now (words .entry)) (t .0) first (now (fields .entry))) (now (out .entry)) (now (out .exit)) n ⌝ }
     ensures { λ n. ⌜ n ≤ 2 * mostFields + 1 ⌝ }
 {
-    let n = validate_input_values(text, words, l, t, first, fields, out);
+    let n = validate_input_values(text, words, l, order, t, first, fields, out);
     if field_rows(fields) == 0 {
         let at = used(n, out.len());
         return n + put(&mut out[at..], Record::empty_input_value_set(t));
@@ -268,6 +283,7 @@ pub fn validate_input_object_definition(
     text: &[u8],
     words: &[u32],
     l: Layout,
+    order: &[u32],
     t: TypeRow,
     cycle: u32,
     first: usize,
@@ -277,10 +293,11 @@ pub fn validate_input_object_definition(
     requires { ⌜ Readable (now text) (now words) l ⌝ }
     requires { ⌜ t .0 < l .types ⌝ }
     requires { ⌜ FieldPart l first (now fields) ⌝ }
+    requires { ⌜ Helps (now words) (l .types) (now order) ⌝ }
     ensures { λ n. ⌜ Emitted (inputObjectRecords (now (text .entry)) (now (words .entry)) (t .0) cycle first (now (fields .entry))) (now (out .entry)) (now (out .exit)) n ⌝ }
     ensures { λ n. ⌜ n ≤ 2 * mostFields + 2 ⌝ }
 {
     let n = validate_cycle(t, cycle, out);
     let at = used(n, out.len());
-    n + validate_input_fields(text, words, l, t, first, fields, &mut out[at..])
+    n + validate_input_fields(text, words, l, order, t, first, fields, &mut out[at..])
 }

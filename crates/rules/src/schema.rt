@@ -3,8 +3,10 @@ ghost use mathlib.Core.Path.{_≡_};
 ghost use Prim.Native.Nat.{_≤_, _<_};
 ghost use Rattle.table.specs.Layout.{Laid};
 ghost use Rattle.records.specs.Records.{Emitted, each};
+ghost use Rattle.order.specs.Order.{Helps};
 ghost use Rattle.rules.specs.Schema.{rootType, firstRoot, rootRecords, queryRecord, schemaRecords};
 ghost use Rattle.rules.specs.Bounds.{mostOfRoots};
+use order::find::look_up;
 use records::Place;
 use records::Record;
 use records::put;
@@ -12,7 +14,6 @@ use records::used;
 use rows::numbers::NameNo;
 use rows::numbers::TypeRow;
 use rows::types::FoundType;
-use rows::types::find_type;
 use rows::types::root_name;
 use rows::types::type_kind;
 use table::kinds::Kind;
@@ -22,15 +23,17 @@ use table::layout::Layout;
 fn validate_root_type(
     words: &[u32],
     l: Layout,
+    order: &[u32],
     operation: u32,
     name: NameNo,
     out: &mut [u32],
 ) -> usize
     requires { ⌜ Laid (now words) l ⌝ }
+    requires { ⌜ Helps (now words) (l .types) (now order) ⌝ }
     ensures { λ n. ⌜ Emitted (rootType (now (words .entry)) operation (name .0)) (now (out .entry)) (now (out .exit)) n ⌝ }
     ensures { λ n. ⌜ n ≤ 1 ⌝ }
 {
-    match find_type(words, l, name) {
+    match look_up(words, l, order, name) {
         FoundType::Nothing => put(
             out,
             Record::undefined_definition(TypeRow::NONE, name, Place::ROOT, operation),
@@ -60,9 +63,10 @@ fn first_root(words: &[u32], l: Layout, operation: u32, name: NameNo) -> u32
     operation
 }
 
-fn validate_root(words: &[u32], l: Layout, operation: u32, out: &mut [u32]) -> usize
+fn validate_root(words: &[u32], l: Layout, order: &[u32], operation: u32, out: &mut [u32]) -> usize
     requires { ⌜ Laid (now words) l ⌝ }
     requires { ⌜ operation < 3 ⌝ }
+    requires { ⌜ Helps (now words) (l .types) (now order) ⌝ }
     ensures { λ n. ⌜ Emitted (rootRecords (now (words .entry)) operation) (now (out .entry)) (now (out .exit)) n ⌝ }
     ensures { λ n. ⌜ n ≤ 2 ⌝ }
 {
@@ -70,7 +74,7 @@ fn validate_root(words: &[u32], l: Layout, operation: u32, out: &mut [u32]) -> u
     if name.0 == Record::NONE {
         return 0;
     }
-    let n = validate_root_type(words, l, operation, name, out);
+    let n = validate_root_type(words, l, order, operation, name, out);
     let first = first_root(words, l, operation, name);
     if first < operation {
         let at = used(n, out.len());
@@ -83,8 +87,14 @@ fn validate_root(words: &[u32], l: Layout, operation: u32, out: &mut [u32]) -> u
     n
 }
 
-fn validate_root_operation_definitions(words: &[u32], l: Layout, out: &mut [u32]) -> usize
+fn validate_root_operation_definitions(
+    words: &[u32],
+    l: Layout,
+    order: &[u32],
+    out: &mut [u32],
+) -> usize
     requires { ⌜ Laid (now words) l ⌝ }
+    requires { ⌜ Helps (now words) (l .types) (now order) ⌝ }
     ensures { λ n. ⌜ Emitted (each (rootRecords (now (words .entry))) 3) (now (out .entry)) (now (out .exit)) n ⌝ }
     ensures { λ n. ⌜ n ≤ 6 ⌝ }
 {
@@ -92,7 +102,7 @@ fn validate_root_operation_definitions(words: &[u32], l: Layout, out: &mut [u32]
     let mut operation: u32 = 0;
     while operation < 3 {
         let at = used(n, out.len());
-        n += validate_root(words, l, operation, &mut out[at..]);
+        n += validate_root(words, l, order, operation, &mut out[at..]);
         operation += 1;
     }
     n
@@ -110,12 +120,13 @@ fn validate_query(words: &[u32], l: Layout, out: &mut [u32]) -> usize
     0
 }
 
-pub fn validate_schema_definition(words: &[u32], l: Layout, out: &mut [u32]) -> usize
+pub fn validate_schema_definition(words: &[u32], l: Layout, order: &[u32], out: &mut [u32]) -> usize
     requires { ⌜ Laid (now words) l ⌝ }
+    requires { ⌜ Helps (now words) (l .types) (now order) ⌝ }
     ensures { λ n. ⌜ Emitted (schemaRecords (now (words .entry))) (now (out .entry)) (now (out .exit)) n ⌝ }
     ensures { λ n. ⌜ n ≤ mostOfRoots ⌝ }
 {
     let n = validate_query(words, l, out);
     let at = used(n, out.len());
-    n + validate_root_operation_definitions(words, l, &mut out[at..])
+    n + validate_root_operation_definitions(words, l, order, &mut out[at..])
 }

@@ -3,8 +3,10 @@ ghost use Prim.Native.Nat.{_+_, _*_, _≤_, _<_};
 ghost use lib.ListN.{length, getD};
 ghost use Rattle.records.specs.Records.{Emitted, each};
 ghost use Rattle.rows.specs.Readable.{SoundRows, NamePart};
+ghost use Rattle.order.specs.Order.{Helps};
 ghost use Rattle.rules.specs.Union.{memberRecord, unionRecords};
 ghost use Rattle.table.specs.Layout.{mostMembers};
+use order::find::look_up;
 use records::Place;
 use records::Record;
 use records::put;
@@ -12,7 +14,6 @@ use records::used;
 use rows::numbers::NameNo;
 use rows::numbers::TypeRow;
 use rows::types::FoundType;
-use rows::types::find_type;
 use rows::types::type_kind;
 use table::kinds::Kind;
 use table::layout::Layout;
@@ -21,16 +22,18 @@ use table::layout::Layout;
 fn validate_union_member(
     words: &[u32],
     l: Layout,
+    order: &[u32],
     t: TypeRow,
     name: NameNo,
     row: u32,
     out: &mut [u32],
 ) -> usize
     requires { ⌜ SoundRows (now words) l ⌝ }
+    requires { ⌜ Helps (now words) (l .types) (now order) ⌝ }
     ensures { λ n. ⌜ Emitted (memberRecord (now (words .entry)) (t .0) (name .0) row) (now (out .entry)) (now (out .exit)) n ⌝ }
     ensures { λ n. ⌜ n ≤ 1 ⌝ }
 {
-    match find_type(words, l, name) {
+    match look_up(words, l, order, name) {
         FoundType::Nothing => put(
             out,
             Record::undefined_definition(t, name, Place::MEMBER, row),
@@ -47,6 +50,7 @@ fn validate_union_member(
 fn validate_union_members(
     words: &[u32],
     l: Layout,
+    order: &[u32],
     t: TypeRow,
     first: usize,
     members: &[u32],
@@ -54,6 +58,7 @@ fn validate_union_members(
 ) -> usize
     requires { ⌜ SoundRows (now words) l ⌝ }
     requires { ⌜ NamePart l first (now members) ⌝ }
+    requires { ⌜ Helps (now words) (l .types) (now order) ⌝ }
     ensures { λ n. ⌜ Emitted (each (λ i. memberRecord (now (words .entry)) (t .0) (getD (now (members .entry)) i 0) (first + i)) (length (now (members .entry)))) (now (out .entry)) (now (out .exit)) n ⌝ }
     ensures { λ n. ⌜ n ≤ mostMembers ⌝ }
 {
@@ -64,6 +69,7 @@ fn validate_union_members(
         n += validate_union_member(
             words,
             l,
+            order,
             t,
             NameNo(members[i]),
             (first + i) as u32,
@@ -77,6 +83,7 @@ fn validate_union_members(
 pub fn validate_union_definition(
     words: &[u32],
     l: Layout,
+    order: &[u32],
     t: TypeRow,
     first: usize,
     members: &[u32],
@@ -84,10 +91,11 @@ pub fn validate_union_definition(
 ) -> usize
     requires { ⌜ SoundRows (now words) l ⌝ }
     requires { ⌜ NamePart l first (now members) ⌝ }
+    requires { ⌜ Helps (now words) (l .types) (now order) ⌝ }
     ensures { λ n. ⌜ Emitted (unionRecords (now (words .entry)) (t .0) first (now (members .entry))) (now (out .entry)) (now (out .exit)) n ⌝ }
     ensures { λ n. ⌜ n ≤ mostMembers + 1 ⌝ }
 {
-    let n = validate_union_members(words, l, t, first, members, out);
+    let n = validate_union_members(words, l, order, t, first, members, out);
     if members.len() == 0 {
         let at = used(n, out.len());
         return n + put(&mut out[at..], Record::empty_member_set(t));

@@ -6,6 +6,7 @@ ghost use Rattle.records.specs.Records.{Emitted, when};
 ghost use Rattle.records.specs.Rows.{emptyFieldSet};
 ghost use Rattle.rows.specs.Parts.{fieldRows};
 ghost use Rattle.rows.specs.Readable.{Readable, FieldPart};
+ghost use Rattle.order.specs.Order.{Helps};
 ghost use Rattle.rules.specs.Field.{fieldsRecords};
 ghost use Rattle.rules.specs.Object.{objectRecords, interfaceRecords};
 ghost use Rattle.rules.specs.Bounds.{mostOfFields, mostOfObject, mostOfKind};
@@ -28,6 +29,7 @@ fn validate_fields(
     text: &[u8],
     words: &[u32],
     l: Layout,
+    order: &[u32],
     t: TypeRow,
     first: usize,
     fields: &[u32],
@@ -36,10 +38,11 @@ fn validate_fields(
     requires { ⌜ Readable (now text) (now words) l ⌝ }
     requires { ⌜ t .0 < l .types ⌝ }
     requires { ⌜ FieldPart l first (now fields) ⌝ }
+    requires { ⌜ Helps (now words) (l .types) (now order) ⌝ }
     ensures { λ n. ⌜ Emitted (fieldsRecords (now (text .entry)) (now (words .entry)) (t .0) first (now (fields .entry)) ++ when (eqb (fieldRows (now (fields .entry))) 0) (emptyFieldSet (t .0) ∷ [])) (now (out .entry)) (now (out .exit)) n ⌝ }
     ensures { λ n. ⌜ n ≤ mostOfFields ⌝ }
 {
-    let n = validate_field_definitions(text, words, l, t, first, fields, out);
+    let n = validate_field_definitions(text, words, l, order, t, first, fields, out);
     if field_rows(fields) == 0 {
         let at = used(n, out.len());
         return n + put(&mut out[at..], Record::empty_field_set(t));
@@ -51,11 +54,13 @@ pub fn validate_object_type_definition(
     text: &[u8],
     words: &[u32],
     l: Layout,
+    order: &[u32],
     t: TypeRow,
     out: &mut [u32],
 ) -> usize
     requires { ⌜ Readable (now text) (now words) l ⌝ }
     requires { ⌜ t .0 < l .types ⌝ }
+    requires { ⌜ Helps (now words) (l .types) (now order) ⌝ }
     ensures { λ n. ⌜ Emitted (objectRecords (now (text .entry)) (now (words .entry)) (t .0)) (now (out .entry)) (now (out .exit)) n ⌝ }
     ensures { λ n. ⌜ n ≤ mostOfObject ⌝ }
 {
@@ -63,12 +68,13 @@ pub fn validate_object_type_definition(
     let edges = edges_of(words, l, t);
     let fields_first = fields_start(words, l, t);
     let fields = fields_of(words, l, t);
-    let n = validate_fields(text, words, l, t, fields_first, fields, out);
+    let n = validate_fields(text, words, l, order, t, fields_first, fields, out);
     let at = used(n, out.len());
     n
         + validate_edges(
             words,
             l,
+            order,
             t,
             first,
             edges,
@@ -82,16 +88,18 @@ pub fn validate_interface_definition(
     text: &[u8],
     words: &[u32],
     l: Layout,
+    order: &[u32],
     t: TypeRow,
     out: &mut [u32],
 ) -> usize
     requires { ⌜ Readable (now text) (now words) l ⌝ }
     requires { ⌜ t .0 < l .types ⌝ }
+    requires { ⌜ Helps (now words) (l .types) (now order) ⌝ }
     ensures { λ n. ⌜ Emitted (interfaceRecords (now (text .entry)) (now (words .entry)) (t .0)) (now (out .entry)) (now (out .exit)) n ⌝ }
     ensures { λ n. ⌜ n ≤ mostOfKind ⌝ }
 {
     let first = edges_start(words, l, t);
     let n = validate_self_edges(words, l, t, first, edges_of(words, l, t), out);
     let at = used(n, out.len());
-    n + validate_object_type_definition(text, words, l, t, &mut out[at..])
+    n + validate_object_type_definition(text, words, l, order, t, &mut out[at..])
 }

@@ -5,6 +5,7 @@ ghost use Rattle.records.specs.Records.{Emitted, each};
 ghost use Rattle.table.specs.Layout.{membersStart, valuesStart, fieldsStart};
 ghost use Rattle.rows.specs.Parts.{membersOf, valuesOf, fieldsOf};
 ghost use Rattle.rows.specs.Readable.{SoundRows, Readable};
+ghost use Rattle.order.specs.Order.{Helps};
 ghost use Rattle.rules.specs.Enum.{enumRecords};
 ghost use Rattle.rules.specs.Union.{unionRecords};
 ghost use Rattle.rules.specs.InputObject.{inputObjectRecords};
@@ -34,14 +35,15 @@ use table::kinds::Kind;
 use table::layout::Layout;
 
 // The parts of a union, an enum and an input object, handed on.
-fn validate_union(words: &[u32], l: Layout, t: TypeRow, out: &mut [u32]) -> usize
+fn validate_union(words: &[u32], l: Layout, order: &[u32], t: TypeRow, out: &mut [u32]) -> usize
     requires { ⌜ SoundRows (now words) l ⌝ }
     requires { ⌜ t .0 < l .types ⌝ }
+    requires { ⌜ Helps (now words) (l .types) (now order) ⌝ }
     ensures { λ n. ⌜ Emitted (unionRecords (now (words .entry)) (t .0) (membersStart (now (words .entry)) (t .0)) (membersOf (now (words .entry)) (t .0))) (now (out .entry)) (now (out .exit)) n ⌝ }
     ensures { λ n. ⌜ n ≤ mostMembers + 1 ⌝ }
 {
     let first = members_start(words, l, t);
-    validate_union_definition(words, l, t, first, members_of(words, l, t), out)
+    validate_union_definition(words, l, order, t, first, members_of(words, l, t), out)
 }
 
 fn validate_enum(text: &[u8], words: &[u32], l: Layout, t: TypeRow, out: &mut [u32]) -> usize
@@ -58,17 +60,29 @@ fn validate_input_object(
     text: &[u8],
     words: &[u32],
     l: Layout,
+    order: &[u32],
     t: TypeRow,
     cycle: u32,
     out: &mut [u32],
 ) -> usize
     requires { ⌜ Readable (now text) (now words) l ⌝ }
     requires { ⌜ t .0 < l .types ⌝ }
+    requires { ⌜ Helps (now words) (l .types) (now order) ⌝ }
     ensures { λ n. ⌜ Emitted (inputObjectRecords (now (text .entry)) (now (words .entry)) (t .0) cycle (fieldsStart (now (words .entry)) (t .0)) (fieldsOf (now (words .entry)) (t .0))) (now (out .entry)) (now (out .exit)) n ⌝ }
     ensures { λ n. ⌜ n ≤ 2 * mostFields + 2 ⌝ }
 {
     let first = fields_start(words, l, t);
-    validate_input_object_definition(text, words, l, t, cycle, first, fields_of(words, l, t), out)
+    validate_input_object_definition(
+        text,
+        words,
+        l,
+        order,
+        t,
+        cycle,
+        first,
+        fields_of(words, l, t),
+        out,
+    )
 }
 
 // The decision on the kind; a scalar has nothing. `cycle` counts the fields of the type's first cycle.
@@ -76,22 +90,24 @@ fn validate_kind(
     text: &[u8],
     words: &[u32],
     l: Layout,
+    order: &[u32],
     t: TypeRow,
     cycle: u32,
     out: &mut [u32],
 ) -> usize
     requires { ⌜ Readable (now text) (now words) l ⌝ }
     requires { ⌜ t .0 < l .types ⌝ }
+    requires { ⌜ Helps (now words) (l .types) (now order) ⌝ }
     ensures { λ n. ⌜ Emitted (kindRecords (now (text .entry)) (now (words .entry)) cycle (t .0)) (now (out .entry)) (now (out .exit)) n ⌝ }
     ensures { λ n. ⌜ n ≤ mostOfKind ⌝ }
 {
     match kind_of(words, l, t) {
         Kind::Scalar => 0,
-        Kind::Object => validate_object_type_definition(text, words, l, t, out),
-        Kind::Interface => validate_interface_definition(text, words, l, t, out),
-        Kind::Union => validate_union(words, l, t, out),
+        Kind::Object => validate_object_type_definition(text, words, l, order, t, out),
+        Kind::Interface => validate_interface_definition(text, words, l, order, t, out),
+        Kind::Union => validate_union(words, l, order, t, out),
         Kind::Enum => validate_enum(text, words, l, t, out),
-        Kind::InputObject => validate_input_object(text, words, l, t, cycle, out),
+        Kind::InputObject => validate_input_object(text, words, l, order, t, cycle, out),
     }
 }
 
@@ -100,12 +116,14 @@ fn validate_type(
     text: &[u8],
     words: &[u32],
     l: Layout,
+    order: &[u32],
     t: TypeRow,
     cycle: u32,
     out: &mut [u32],
 ) -> usize
     requires { ⌜ Readable (now text) (now words) l ⌝ }
     requires { ⌜ t .0 < l .types ⌝ }
+    requires { ⌜ Helps (now words) (l .types) (now order) ⌝ }
     ensures { λ n. ⌜ Emitted (typeRecords (now (text .entry)) (now (words .entry)) (λ u. cycle) (t .0)) (now (out .entry)) (now (out .exit)) n ⌝ }
     ensures { λ n. ⌜ n ≤ mostOfType ⌝ }
 {
@@ -120,13 +138,21 @@ fn validate_type(
         out,
     );
     let at = used(n, out.len());
-    n + validate_kind(text, words, l, t, cycle, &mut out[at..])
+    n + validate_kind(text, words, l, order, t, cycle, &mut out[at..])
 }
 
 // The types in row order; `cycles` has each type's count.
-fn validate_types(text: &[u8], words: &[u32], l: Layout, cycles: &[u32], out: &mut [u32]) -> usize
+fn validate_types(
+    text: &[u8],
+    words: &[u32],
+    l: Layout,
+    order: &[u32],
+    cycles: &[u32],
+    out: &mut [u32],
+) -> usize
     requires { ⌜ Readable (now text) (now words) l ⌝ }
     requires { ⌜ l .types ≤ length (now cycles) ⌝ }
+    requires { ⌜ Helps (now words) (l .types) (now order) ⌝ }
     ensures { λ n. ⌜ Emitted (each (typeRecords (now (text .entry)) (now (words .entry)) (λ u. getD (now (cycles .entry)) u 0)) (l .types)) (now (out .entry)) (now (out .exit)) n ⌝ }
     ensures { λ n. ⌜ n ≤ mostOfType * mostTypes ⌝ }
 {
@@ -135,7 +161,15 @@ fn validate_types(text: &[u8], words: &[u32], l: Layout, cycles: &[u32], out: &m
     let mut t = 0;
     while t < types {
         let at = used(n, out.len());
-        n += validate_type(text, words, l, TypeRow(t as u32), cycles[t], &mut out[at..]);
+        n += validate_type(
+            text,
+            words,
+            l,
+            order,
+            TypeRow(t as u32),
+            cycles[t],
+            &mut out[at..],
+        );
         t += 1;
     }
     n
@@ -146,15 +180,17 @@ pub fn validate_schema(
     text: &[u8],
     words: &[u32],
     l: Layout,
+    order: &[u32],
     cycles: &[u32],
     out: &mut [u32],
 ) -> usize
     requires { ⌜ Readable (now text) (now words) l ⌝ }
     requires { ⌜ l .types ≤ length (now cycles) ⌝ }
+    requires { ⌜ Helps (now words) (l .types) (now order) ⌝ }
     ensures { λ n. ⌜ Emitted (listOf (now (text .entry)) (now (words .entry)) (λ u. getD (now (cycles .entry)) u 0)) (now (out .entry)) (now (out .exit)) n ⌝ }
     ensures { λ n. ⌜ n ≤ mostRecords ⌝ }
 {
-    let n = validate_schema_definition(words, l, out);
+    let n = validate_schema_definition(words, l, order, out);
     let at = used(n, out.len());
-    n + validate_types(text, words, l, cycles, &mut out[at..])
+    n + validate_types(text, words, l, order, cycles, &mut out[at..])
 }

@@ -6,6 +6,7 @@ use Rattle.table.specs.Sound.{Sound}
 use Rattle.table.proofs.AnswerLaws.{verdict-sound}
 use Rattle.rows.specs.Readable.{SoundRows}
 use Rattle.rows.proofs.ReadableLaws.{sound-rows}
+use Rattle.order.proofs.OrderLaws.{sound-apart}
 use Rattle.evidence.proofs.ChainLaws.{chained}
 use Rattle.marks.proofs.run.Statement.{statement}
 use Rattle.marks.proofs.run.Tie as tie
@@ -27,7 +28,10 @@ mul-need : tie.Need-mul-need
 mul-need c = let s = rows (c .before) .laid in search needs
 
 make-evidence-requires : tie.Need-make-evidence-requires
-make-evidence-requires c κs = let r = rows (c .before .before .before .before .before) in let e = chained r .types in (r, record { work-room = omega arith; out-room = omega arith })
+make-evidence-requires c κs =
+    let r = rows (c .before .before .before .before .before) in
+    let e = chained r .types in
+    (r, (record { work-room = omega arith; out-room = omega arith }, sound-apart (sound (c .before .before .before .before .before .before))))
 
 count-marked-requires : tie.Need-count-marked-requires
 count-marked-requires c κs = rows (c .before .before .before .before .before .before .before .before .before .before .before) .laid .types-most

@@ -1,78 +1,84 @@
--- `make_evidence`: each pass finds the words right that it needs, and proofs/Assemble puts them together.
+-- `make_evidence`: the passes begin with the words of the search cleared and the order behind them, and in the end both are cleared.
 use borrow.Author.Needs.{needs}
 use native.Mathlib.Omega.{arith}
-use mathlib.Core.Path.{_∙_}
+use mathlib.Core.Path.{_≡_, _∙_}
+use lib.ListN.{length}
 use Rattle.chains.specs.Fields.{chainGraph}
 use Rattle.evidence.proofs.ChainLaws.{chained}
-use Rattle.producer.proofs.Assemble.{cleared-first, filling-first, filling-after, made, cleared-wide}
-use Rattle.producer.proofs.PassLaws.{cleared-join}
-use Rattle.producer.proofs.Reach.{cleared-zeros}
+use Rattle.producer.proofs.Assemble.{first-room, filling-first, last-size, cleared-last, made}
 use Rattle.producer.proofs.make_evidence.Statement.{statement}
 use Rattle.producer.proofs.make_evidence.Tie as tie
 
+mul-clear : tie.Need-mul-clear
+mul-clear c = search needs
+
 clear-requires : tie.Need-clear-requires
-clear-requires c κs =
-    let pre = c .before .before .before .before .before .pre in
-    let e = chained (pre .0) .types in
-    let r = pre .1 .work-room in
-    omega arith
+clear-requires c κs = let pre = c .before .before .before .before .before .pre in omega (arith, chained (pre .0) .types, pre .1 .0 .work-room)
 
-fill-leaders-requires : tie.Need-fill-leaders-requires
-fill-leaders-requires c κs =
-    let pre = c .before .before .before .before .before .before .before .before .before .before .pre in
-    let clear-call = c .before .before .before .before .clear in
-    filling-first (pre .0) (pre .1) (clear-call .ensures)
+mul-sort-from : tie.Need-mul-sort-from
+mul-sort-from c = search needs
 
-fill-levels-requires : tie.Need-fill-levels-requires
-fill-levels-requires c κs =
-    let pre = c .before .before .before .before .before .before .before .before .before .before .before .before .before .before .before .before .before .pre in
-    let clear-call = c .before .before .before .before .before .before .before .before .before .before .before .clear in
-    let fill-leaders-call = c .before .before .before .before .before .before .fill-leaders in
-    (filling-after (filling-first (pre .0) (pre .1) (clear-call .ensures)) (fill-leaders-call .ensures), fill-leaders-call .ensures .right)
+sort-from-requires : tie.Need-sort-from-requires
+sort-from-requires c κs =
+    let d = c .before .before .before .before in
+    let pre = d .before .before .before .before .before .before .pre in
+    (pre .0 .laid, (pre .1 .1, omega (arith, first-room (pre .0) (pre .1 .0) (d .clear .ensures))))
 
-fill-fields-requires : tie.Need-fill-fields-requires
-fill-fields-requires c κs =
-    let pre = c .before .before .before .before .before .before .before .before .before .before .before .before .before .before .before .before .before .before .before .before .before .before .before .before .pre in
-    let clear-call = c .before .before .before .before .before .before .before .before .before .before .before .before .before .before .before .before .before .before .clear in
-    let fill-leaders-call = c .before .before .before .before .before .before .before .before .before .before .before .before .before .fill-leaders in
-    let fill-levels-call = c .before .before .before .before .before .before .fill-levels in
-    (filling-after (filling-after (filling-first (pre .0) (pre .1) (clear-call .ensures)) (fill-leaders-call .ensures)) (fill-levels-call .ensures), fill-levels-call .ensures .right)
+fill-all-requires : tie.Need-fill-all-requires
+fill-all-requires c κs =
+    let s = c .before .before .before .before in
+    let d = s .before .before .before .before .before in
+    let pre = d .before .before .before .before .before .before .pre in
+    filling-first (pre .0) (pre .1 .0) (d .clear .ensures) (s .sort-from .ensures)
+
+-- after the passes: the function's entry, and how many work words there are
+abbrev entry : tie.After-fill-all → tie.Start
+entry c = c .before .before .before .before .before .before .before .before .before .before .before .before .before .before .before .before
+
+size : (c : tie.After-fill-all) → length (c .fill-all .last .1 .1 .0) ≡ length (entry c .args .work .now)
+size c =
+    let s = c .before .before .before .before .before in
+    let d = s .before .before .before .before .before in
+    let pre = entry c .pre in
+    last-size (pre .0) (pre .1 .0) (d .clear .ensures) (s .sort-from .ensures) (c .fill-all .ensures .cleared)
+
+mul-clear-2 : tie.Need-mul-clear-2
+mul-clear-2 c = omega (arith, entry (c .before .before .before .before .before .before) .pre .0 .laid .types-most)
+
+clear-requires-2 : tie.Need-clear-requires-2
+clear-requires-2 c κs =
+    let e : tie.After-fill-all = c .before .before .before .before .before .before in
+    let pre = entry e .pre in
+    omega (arith, size e, chained (pre .0) .types, pre .1 .0 .work-room)
 
 same-length : tie.Need-same-length
-same-length c =
-    let fill-fields-call = c .before .before .before .before .fill-fields in
-    let fill-levels-call = c .before .before .before .before .before .before .before .before .before .before .before .fill-levels in
-    let fill-leaders-call = c .before .before .before .before .before .before .before .before .before .before .before .before .before .before .before .before .before .before .fill-leaders in
-    let pre = c .before .before .before .before .before .before .before .before .before .before .before .before .before .before .before .before .before .before .before .before .before .before .before .before .before .before .before .before .before .pre in
-    let clear-call = c .before .before .before .before .before .before .before .before .before .before .before .before .before .before .before .before .before .before .before .before .before .before .before .clear in
-    fill-fields-call .ensures .cleared .size ∙ fill-levels-call .ensures .cleared .size ∙ fill-leaders-call .ensures .cleared .size ∙ cleared-first (pre .0) (pre .1) (clear-call .ensures) .size
+same-length c = c .before .before .clear2 .kept .0 ∙ size (c .before .before .before .before .before .before .before .before .before)
 
 same-length-2 : tie.Need-same-length-2
-same-length-2 c =
-    let fill-fields-call = c .before .before .before .before .fill-fields in
-    let fill-levels-call = c .before .before .before .before .before .before .before .before .before .before .before .fill-levels in
-    let fill-leaders-call = c .before .before .before .before .before .before .before .before .before .before .before .before .before .before .before .before .before .before .fill-leaders in
-    fill-fields-call .ensures .size ∙ fill-levels-call .ensures .size ∙ fill-leaders-call .ensures .size
+same-length-2 c = c .before .before .before .before .before .before .before .before .before .fill-all .ensures .size
 
 returns : tie.Need-returns
 returns c =
-    let args = c .before .before .before .before .before .before .before .before .before .before .before .before .before .before .before .before .before .before .before .before .before .before .before .before .before .before .before .before .before .args in
-    let fill-leaders-call = c .before .before .before .before .before .before .before .before .before .before .before .before .before .before .before .before .before .before .fill-leaders in
-    let fill-levels-call = c .before .before .before .before .before .before .before .before .before .before .before .fill-levels in
-    let fill-fields-call = c .before .before .before .before .fill-fields in
-    let pre = c .before .before .before .before .before .before .before .before .before .before .before .before .before .before .before .before .before .before .before .before .before .before .before .before .before .before .before .before .before .pre in
-    let clear-call = c .before .before .before .before .before .before .before .before .before .before .before .before .before .before .before .before .before .before .before .before .before .before .before .clear in
-    (made (chainGraph (args .words .now)) (fill-leaders-call .ensures) (fill-levels-call .ensures) (fill-fields-call .ensures), cleared-zeros (cleared-wide (omega arith) (cleared-first (pre .0) (pre .1) (clear-call .ensures)) (cleared-join (fill-leaders-call .ensures .cleared) (cleared-join (fill-levels-call .ensures .cleared) (fill-fields-call .ensures .cleared)))))
+    let e : tie.After-fill-all = c .before .before .before .before .before .before .before .before .before in
+    let s = e .before .before .before .before .before in
+    let d = s .before .before .before .before .before in
+    let pre = entry e .pre in
+    let all = e .fill-all .ensures in (
+      made (chainGraph (entry e .args .words .now)) all,
+      c .before .before .clear2 .ensures ∙ cleared-last (pre .0) (pre .1 .0) (d .clear .ensures) (s .sort-from .ensures) (all .cleared),
+    )
 
 pub make-evidence-spec : {M : Type 1} → statement M
 make-evidence-spec =
     tie.close
     (tie.spec
-    (λ c. search needs)  -- mul-clear
+    mul-clear
     clear-requires
-    fill-leaders-requires
-    fill-levels-requires
-    fill-fields-requires
+    mul-sort-from
+    sort-from-requires
+    fill-all-requires
+    mul-clear-2
+    clear-requires-2
     same-length
     same-length-2
     returns)

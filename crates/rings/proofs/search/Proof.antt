@@ -1,14 +1,18 @@
 -- `search`: a table that the check finds well-formed is one that a first cycle may be asked of, with work words that were cleared.
 use borrow.Author.Needs.{needs}
-use mathlib.Core.Path.{sym, subst}
+use mathlib.Core.Path.{_≡_, sym, subst}
+use mathlib.Core.List.{List, [], _++_, append-nil}
 use Prim.Native.Nat.{ℕ, _*_}
 use native.Mathlib.Omega.{arith}
-use lib.ListN.{length-take}
+use lib.ListN.{take, replicate, length-take, length-replicate}
+use lib.Seq.{take-at, length-take-le}
 use Rattle.table.specs.Sound.{Sound}
 use Rattle.table.proofs.AnswerLaws.{verdict-sound}
 use Rattle.rows.specs.Readable.{SoundRows}
+use Rattle.rows.proofs.PartLaws.{type-count}
 use Rattle.rows.proofs.ReadableLaws.{sound-rows}
-use Rattle.chains.proofs.BlankLaws.{cleared-blank}
+use Rattle.chains.proofs.HelpLaws.{helped-none}
+use Rattle.chains.proofs.SettleLaws.{cleared-settled}
 use Rattle.rings.proofs.search.Statement.{statement}
 use Rattle.rings.proofs.search.Tie as tie
 
@@ -28,12 +32,21 @@ layout-of-requires c κs = let s = sound c .laid in omega arith
 mul-marks : tie.Need-mul-marks
 mul-marks c = let s = rows (c .before) .laid in search needs
 
+-- the words that are lent are those that were cleared
+zeros : (m : ℕ) (W rest : List ℕ) → W ≡ replicate m 0 ++ rest → take m W ≡ replicate m 0 ++ []
+zeros m W rest e = rw (e, take-at {A = ℕ} (replicate m 0) rest m (length-replicate m 0)) (sym (append-nil (replicate m 0)))
+
+slice-aggregate-first-cycle : tie.Need-slice-aggregate-first-cycle
+slice-aggregate-first-cycle c = sym (length-take-le _ _ (search needs))
+
 first-cycle-requires : tie.Need-first-cycle-requires
 first-cycle-requires c κs =
     let b = c .before .before .before .before in
-    let e = b .before .before .before .before .before .before .before in
-    let marks : ℕ = 2 * e .layout-of .result .types in
-    (rows e, (search needs, rw (b .clear .ensures) (cleared-blank marks marks _ (omega arith))))
+    let e : tie.After-layout-of = b .before .before .before .before .before .before .before in
+    let m : ℕ = 2 * e .layout-of .result .types in
+    let r = rows e in
+    let z = zeros m _ _ (b .clear .ensures) in
+    (r, (search needs, (rw z (cleared-settled _ m [] (omega (arith, type-count _ _ (r .laid)))), helped-none _ _ _ (rw z (simp (append-nil, length-replicate))))))
 
 slice-aggregate-in-order : tie.Need-slice-aggregate-in-order
 slice-aggregate-in-order c = let h = c .before .if3 .taken in simp length-take (omega arith)
@@ -59,6 +72,8 @@ search-spec =
     (λ c κs. search needs)  -- write-all-requires-4
     (λ c. search needs)  -- returns-3
     (λ c κs. search needs)  -- clear-requires
+    (λ c. search needs)  -- slice-relend-prefix-first-cycle
+    slice-aggregate-first-cycle
     first-cycle-requires
     (λ c κs. search needs)  -- print-requires
     (λ c. search needs)  -- slice-reshare-prefix-in-order

@@ -1,65 +1,88 @@
--- `first_cycle`: the search from t starts with t alone marked, and what it finds is the answer, by the laws of proofs/Top.
+-- `first_cycle`: a marked type has no cycle. The search from another starts with t marked too, and what it finds is the answer, by the laws
+-- of proofs/Top.
 use borrow.Author.Needs.{needs}
-use mathlib.Core.Path.{_≡_, _∙_}
-use Prim.Native.Nat.{ℕ, _+_, _-_, _≤_}
+use mathlib.Core.Path.{_≡_, refl, ap, _∙_}
+use Prim.Native.Nat.{ℕ, _<_}
 use native.Mathlib.Omega.{arith}
-use lib.ListN.{length}
+use lib.ListN.{length, getD, length-set}
 use Rattle.table.specs.Layout.{typeCount}
 use Rattle.rows.proofs.PartLaws.{type-count}
+use Rattle.chains.proofs.HelpLaws.{helped-mark}
 use Rattle.chains.proofs.Shape.{shaped}
-use Rattle.chains.proofs.Top.{top-ready, top-most, top-size, top-same, top-answer}
+use Rattle.chains.proofs.Top.{settled-answer, top-ready, top-most, top-only, top-same, top-answer}
 use Rattle.chains.proofs.cycle.first_cycle.Statement.{statement}
 use Rattle.chains.proofs.cycle.first_cycle.Tie as tie
 
 types : (e : tie.Start) → e .args .l .types ≡ typeCount (e .args .words .now)
 types e = type-count _ _ (e .pre .0 .laid)
 
-walk-type-requires : tie.Need-walk-type-requires
-walk-type-requires c κs =
-    let e = c .before .before .before .before .before in
-    (e .pre .0 .laid, top-ready _ _ _ _ (types e) (e .pre .1 .0) (e .pre .1 .1) _ (shaped _ _ (e .pre .0)))
+cast-row : tie.Need-cast-row
+cast-row c = search needs
 
--- after the walk: the function's entry, and what the walk returned and left
-abbrev entry : tie.After-walk-type → tie.Start
-entry c = c .before .before .before .before .before .before
+mul-if1 : tie.Need-mul-if1
+mul-if1 c = search needs
 
-most : (c : tie.After-walk-type) → c .walk-type .result ≤ entry c .args .l .types
-most c = top-most _ _ _ _ (types (entry c)) (entry c .pre .1 .0) (entry c .pre .1 .1) _ _ (c .walk-type .ensures)
-
-size : (c : tie.After-walk-type) → length (c .walk-type .last .1 .1 .1 .1 .1 .0) ≡ length (entry c .args .work .now)
-size c = top-size _ _ _ _ (types (entry c)) (entry c .pre .1 .0) (entry c .pre .1 .1) _ _ (c .walk-type .ensures)
+slice-read-if1 : tie.Need-slice-read-if1
+slice-read-if1 c = search needs
 
 returns : tie.Need-returns
 returns c =
-    let d : tie.After-walk-type = c .before .before .before .before .before .before .before .before .before .before .before .before in
-    let e = entry d in
-    let k : ℕ = e .args .l .types in
-    let n : ℕ = d .walk-type .result in
-    let copied : k + n - k ≡ n = omega arith in (
-      top-answer _ _ _ _ (types e) (e .pre .1 .0) (e .pre .1 .1) _ _ (d .walk-type .ensures) _ copied _ _ (c .before .before .before .before .before .before .copy .ensures),
+    let e = c .before .before .before .before .before .before in
+    (settled-answer _ _ _ (e .pre .1 .1 .0) (omega (arith, types e, e .pre .1 .0)) (c .if1 .taken) _, (omega arith, refl))
+
+mul-work : tie.Need-mul-work
+mul-work c = search needs
+
+slice-write-work : tie.Need-slice-write-work
+slice-write-work c = search needs
+
+walk-type-requires : tie.Need-walk-type-requires
+walk-type-requires c κs =
+    let e = c .before .before .before .before .before .before .before .before in
+    (e .pre .0 .laid, (top-ready _ _ _ _ (types e) (e .pre .1 .0) (e .pre .1 .1 .0) (c .before .before .if1 .left) _ (shaped _ _ (e .pre .0)), helped-mark (e .pre .1 .1 .1) _ _ (omega (arith, e .pre .1 .0))))
+
+-- after the walk: the function's entry, and what the walk returned and left
+abbrev entry : tie.After-walk-type → tie.Start
+entry c = c .before .before .before .before .before .before .before .before .before
+
+fresh : (c : tie.After-walk-type) → getD (entry c .args .work .now) (entry c .args .t .0) 0 ≡ 0
+fresh c = c .before .before .before .if1 .left
+
+size : (c : tie.After-walk-type) → length (c .walk-type .last .1 .1 .1 .1 .1 .0) ≡ length (entry c .args .work .now)
+size c = c .walk-type .kept .1 .1 .1 .1 .1 .0 ∙ length-set (entry c .args .work .now) (entry c .args .t .0) 1
+
+forget-requires : tie.Need-forget-requires
+forget-requires c κs = let d : tie.After-walk-type = c .before .before .before .before .before in omega (arith, size d, entry d .pre .1 .1 .1 .room)
+
+same-length : tie.Need-same-length
+same-length c = c .before .before .forget .kept .0 ∙ size (c .before .before .before .before .before .before .before .before)
+
+same-length-2 : tie.Need-same-length-2
+same-length-2 c = search needs
+
+returns-2 : tie.Need-returns-2
+returns-2 c =
+    let d : tie.After-walk-type = c .before .before .before .before .before .before .before .before in
+    let e = entry d in (
+      top-answer _ _ _ _ (types e) (e .pre .1 .0) (e .pre .1 .1 .0) (fresh d) _ _ _ _ (d .walk-type .ensures),
       (
-        most d,
-        c .before .before .clear .ensures ∙ top-same _ _ _ _ (types e) (e .pre .1 .0) (e .pre .1 .1) _ _ (d .walk-type .ensures),
+        top-most _ _ _ _ (types e) (e .pre .1 .0) (e .pre .1 .1 .0) (fresh d) _ _ _ _ (d .walk-type .ensures),
+        top-same _ _ _ _ (types e) (e .pre .1 .0) (e .pre .1 .1 .0) (fresh d) _ _ _ _ _ (d .walk-type .ensures) (c .before .before .forget .ensures),
       ),
     )
 
--- the answers stand in the order of the lines that a check prints, each with its need's name
 pub first-cycle-spec : {M : Type 1} → statement M
 first-cycle-spec =
     tie.close
     (tie.spec
-    (λ c. search needs)  -- cast-row
-    (λ c. search needs)  -- mul-work
-    (λ c. search needs)  -- slice-write-work
+    cast-row
+    mul-if1
+    slice-read-if1
+    returns
+    mul-work
+    slice-write-work
     walk-type-requires
-    (λ c. let d = c .before .before in omega (arith, most d, entry d .pre .0 .laid .types-most))  -- add-end
-    (λ c. search needs)  -- mul-copy
-    (λ c. search needs)  -- sub-copy
-    (λ c. search needs)  -- part-copy-start
-    (λ c. let d = c .before .before .before in omega (arith, most d, size d, entry d .pre .1 .1 .room))  -- part-copy-end
-    (λ c κs. search needs)  -- copy-requires
-    (λ c. search needs)  -- mul-clear
-    (λ c κs. let d = c .before .before .before .before .before .before .before .before .before in omega (arith, size d, entry d .pre .1 .1 .room))  -- clear-requires
-    (λ c. c .before .before .clear .kept .0 ∙ size (c .before .before .before .before .before .before .before .before .before .before .before .before))  -- same-length
-    (λ c. search needs)  -- same-length-2
-    returns)
+    forget-requires
+    same-length
+    same-length-2
+    returns-2)

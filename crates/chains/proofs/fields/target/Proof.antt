@@ -15,7 +15,7 @@ returns c =
 
 returns-2 : tie.Need-returns-2
 unfolding chainTarget
-returns-2 c = (simp (ne-eqb _ _ (rw (c .before .field-wrap .ensures) at (c .if1 .left)), type-count _ _ (c .before .before .before .pre .0)), omega arith)
+returns-2 c = (simp (ne-eqb _ _ (rw (c .before .field-wrap .ensures) at (c .if1 .left)), type-count _ _ (c .before .before .before .before .pre .0)), omega arith)
 
 pub target-spec : {M : Type 1} → statement M
 target-spec =

@@ -19,16 +19,16 @@ returns-2 c =
 
 led-to-requires : tie.Need-led-to-requires
 led-to-requires c κs =
-    let pre = c .before .before .before .before .before .pre in
-    let args = c .before .before .before .before .before .args in
-    (pre .0, omega (arith, pre .0 .inside (args .t .0) (pre .1)))
+    let pre = c .before .before .before .before .before .before .pre in
+    let args = c .before .before .before .before .before .before .args in
+    (pre .0, (omega (arith, pre .0 .inside (args .t .0) (pre .1 .0)), pre .1 .1))
 
 returns-3 : tie.Need-returns-3
 unfolding chainTo
 returns-3 c =
     let fields-start-call = c .before .before .before .before .fields-start in
     let if1 = c .before .before .before .if1 in
-    let pre = c .before .before .before .before .before .before .pre in
+    let pre = c .before .before .before .before .before .before .before .pre in
     rw (← fields-start-call .ensures, le-leb _ _ (if1 .left), ← c .before .before .chains-end .ensures, lt-ltb _ _ (c .before .if2 .left)) (rw (pre .0 .types) at (c .led-to .ensures))
 
 pub chain-to-spec : {M : Type 1} → statement M

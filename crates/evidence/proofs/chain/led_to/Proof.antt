@@ -16,6 +16,6 @@ led-to-spec =
     tie.close
     (tie.spec
     (λ c κs. search needs)  -- target-requires
-    (λ c. search needs)  -- cast-t6
+    (λ c. search needs)  -- cast-t7
     returns
     returns-2)

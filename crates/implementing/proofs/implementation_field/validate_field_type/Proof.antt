@@ -39,7 +39,7 @@ field-wrap-requires-2 : tie.Need-field-wrap-requires-2
 field-wrap-requires-2 c κs = found-below _ _ _ (sym (c .before .before .before .before .before .before .find-field .ensures) ∙ c .before .before .before .before .x .given .1)
 
 is-valid-implementation-field-type-requires : tie.Need-is-valid-implementation-field-type-requires
-is-valid-implementation-field-type-requires c κs = search needs
+is-valid-implementation-field-type-requires c κs = (c .before .before .before .before .before .before .before .before .before .before .before .before .before .before .pre .0, c .before .before .before .before .before .before .before .before .before .before .before .before .before .before .pre .1 .1 .1 .1)
 
 returns-2 : tie.Need-returns-2
 unfolding fieldTypeRecord
@@ -47,16 +47,16 @@ returns-2 c = let e = rw (c .before .before .before .before .before .before .bef
     (simp (← e, lt-ltb _ _ (found-below _ _ _ (sym (c .before .before .before .before .before .before .before .before .before .find-field .ensures) ∙ c .before .before .before .before .before .before .before .x .given .1)), simp (c .before .before .before .before .before .field-type .ensures, c .before .before .before .before .field-wrap .ensures, c .before .before .before .field-type2 .ensures, c .before .before .field-wrap2 .ensures) at (sym (c .before .is-valid-implementation-field-type .ensures) ∙ c .if1 .taken)) (emit-none _), omega arith)
 
 add-invalid-implementation-field-type : tie.Need-add-invalid-implementation-field-type
-add-invalid-implementation-field-type c = omega (arith, c .before .before .before .before .before .before .before .before .before .before .before .before .before .before .before .before .pre .1 .1 .1, c .before .before .before .before .before .before .before .before .before .before .before .before .before .before .before .before .pre .1 .1 .0 .within, c .before .before .before .before .before .before .before .before .before .before .before .before .before .before .before .before .pre .0 .laid .fields-most)
+add-invalid-implementation-field-type c = omega (arith, c .before .before .before .before .before .before .before .before .before .before .before .before .before .before .before .before .before .pre .1 .1 .1 .0, c .before .before .before .before .before .before .before .before .before .before .before .before .before .before .before .before .before .pre .1 .1 .0 .within, c .before .before .before .before .before .before .before .before .before .before .before .before .before .before .before .before .before .pre .0 .laid .fields-most)
 
 cast-invalid-implementation-field-type : tie.Need-cast-invalid-implementation-field-type
-cast-invalid-implementation-field-type c = omega (arith, c .before .before .before .before .before .before .before .before .before .before .before .before .before .before .before .before .pre .1 .1 .1, c .before .before .before .before .before .before .before .before .before .before .before .before .before .before .before .before .pre .1 .1 .0 .within, c .before .before .before .before .before .before .before .before .before .before .before .before .before .before .before .before .pre .0 .laid .fields-most)
+cast-invalid-implementation-field-type c = omega (arith, c .before .before .before .before .before .before .before .before .before .before .before .before .before .before .before .before .before .pre .1 .1 .1 .0, c .before .before .before .before .before .before .before .before .before .before .before .before .before .before .before .before .before .pre .1 .1 .0 .within, c .before .before .before .before .before .before .before .before .before .before .before .before .before .before .before .before .before .pre .0 .laid .fields-most)
 
 add-invalid-implementation-field-type-2 : tie.Need-add-invalid-implementation-field-type-2
-add-invalid-implementation-field-type-2 c = let b = found-below _ _ _ (sym (c .before .before .before .before .before .before .before .before .before .before .find-field .ensures) ∙ c .before .before .before .before .before .before .before .before .x .given .1) in omega (arith, c .before .before .before .before .before .before .before .before .before .before .before .before .before .before .before .before .pre .1 .0 .within, c .before .before .before .before .before .before .before .before .before .before .before .before .before .before .before .before .pre .0 .laid .fields-most)
+add-invalid-implementation-field-type-2 c = let b = found-below _ _ _ (sym (c .before .before .before .before .before .before .before .before .before .before .find-field .ensures) ∙ c .before .before .before .before .before .before .before .before .x .given .1) in omega (arith, c .before .before .before .before .before .before .before .before .before .before .before .before .before .before .before .before .before .pre .1 .0 .within, c .before .before .before .before .before .before .before .before .before .before .before .before .before .before .before .before .before .pre .0 .laid .fields-most)
 
 cast-invalid-implementation-field-type-2 : tie.Need-cast-invalid-implementation-field-type-2
-cast-invalid-implementation-field-type-2 c = let b = found-below _ _ _ (sym (c .before .before .before .before .before .before .before .before .before .before .find-field .ensures) ∙ c .before .before .before .before .before .before .before .before .x .given .1) in omega (arith, c .before .before .before .before .before .before .before .before .before .before .before .before .before .before .before .before .pre .1 .0 .within, c .before .before .before .before .before .before .before .before .before .before .before .before .before .before .before .before .pre .0 .laid .fields-most)
+cast-invalid-implementation-field-type-2 c = let b = found-below _ _ _ (sym (c .before .before .before .before .before .before .before .before .before .before .find-field .ensures) ∙ c .before .before .before .before .before .before .before .before .x .given .1) in omega (arith, c .before .before .before .before .before .before .before .before .before .before .before .before .before .before .before .before .before .pre .1 .0 .within, c .before .before .before .before .before .before .before .before .before .before .before .before .before .before .before .before .before .pre .0 .laid .fields-most)
 
 invalid-implementation-field-type-requires : tie.Need-invalid-implementation-field-type-requires
 invalid-implementation-field-type-requires c κs = search needs

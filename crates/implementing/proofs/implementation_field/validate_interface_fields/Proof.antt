@@ -12,10 +12,10 @@ use Rattle.implementing.proofs.implementation_field.validate_interface_
 use Rattle.implementing.proofs.implementation_field.validate_interface_fields.Tie as tie
 
 abbrev Inv-loop : tie.InvT-loop
-Inv-loop rule words l t first fields e ifs ifirst out₀ rows n₀ i₀ out n i = (i ≤ fieldRows ifs) × (rows ≡ fieldRows ifs) × (n ≤ mostOfInterfaceField * i) × Emitted (each (fieldRule rule words (t .0) first fields e ifs ifirst) i) out₀ out n
+Inv-loop rule words l order t first fields e ifs ifirst out₀ rows n₀ i₀ out n i = (i ≤ fieldRows ifs) × (rows ≡ fieldRows ifs) × (n ≤ mostOfInterfaceField * i) × Emitted (each (fieldRule rule words (t .0) first fields e ifs ifirst) i) out₀ out n
 
 abbrev μ-loop : tie.MeasureT-loop
-μ-loop rule words l t first fields e ifs ifirst out₀ rows n₀ i₀ out n i = fieldRows ifs - i
+μ-loop rule words l order t first fields e ifs ifirst out₀ rows n₀ i₀ out n i = fieldRows ifs - i
 
 field-rows-requires : tie.Need-field-rows-requires Inv-loop μ-loop
 field-rows-requires c κs = search needs
@@ -39,7 +39,7 @@ part-validate-interface-field-end : tie.Need-part-validate-interface-field-end I
 part-validate-interface-field-end c = search needs
 
 validate-interface-field-requires : tie.Need-validate-interface-field-requires Inv-loop μ-loop
-validate-interface-field-requires c κs = (c .before .before .before .before .before .before .before .before .before .pre .0, (c .before .before .before .before .before .before .before .before .before .pre .1 .0, (c .before .before .before .before .before .before .before .before .before .pre .1 .1, (rw (c .before .before .before .loop .inv .1) at (c .before .before .loop-test .taken)))))
+validate-interface-field-requires c κs = (c .before .before .before .before .before .before .before .before .before .before .pre .0, (c .before .before .before .before .before .before .before .before .before .before .pre .1 .0, (c .before .before .before .before .before .before .before .before .before .before .pre .1 .1 .0, ((rw (c .before .before .before .loop .inv .1) at (c .before .before .loop-test .taken)), c .before .before .before .before .before .before .before .before .before .before .pre .1 .1 .1))))
 
 add-n : tie.Need-add-n Inv-loop μ-loop
 add-n c = search needs
@@ -57,7 +57,7 @@ same-length : tie.Need-same-length Inv-loop μ-loop
 same-length c = search needs
 
 returns : tie.Need-returns Inv-loop μ-loop
-returns c = let e : c .before .loop .i ≡ fieldRows (c .before .before .before .before .before .before .before .args .interface-fields .now) = omega arith in (rw e at (c .before .loop .inv .3), omega arith)
+returns c = let e : c .before .loop .i ≡ fieldRows (c .before .before .before .before .before .before .before .before .args .interface-fields .now) = omega arith in (rw e at (c .before .loop .inv .3), omega arith)
 
 pub validate-interface-fields-spec : {M : Type 1} → statement M
 validate-interface-fields-spec =

@@ -8,8 +8,8 @@ use Rattle.implementing.specs.Interfaces.{foundInterface}
 use Rattle.implementing.proofs.implements_interfaces.find_interface.Statement.{statement}
 use Rattle.implementing.proofs.implements_interfaces.find_interface.Tie as tie
 
-find-type-requires : tie.Need-find-type-requires
-find-type-requires c κs = search needs
+look-up-requires : tie.Need-look-up-requires
+look-up-requires c κs = search needs
 
 enum-known-j : tie.Need-enum-known-j
 enum-known-j c = search needs
@@ -19,26 +19,26 @@ enum-told c = search needs
 
 returns : tie.Need-returns
 unfolding foundInterface isInterface
-returns c = simp (unnamed _ _ (c .before .before .before .before .pre) _ _ (c .before .before .find-type .ensures) (c .enum-told .given .1))
+returns c = simp (unnamed _ _ (c .before .before .before .before .before .pre .0) _ _ (c .before .before .look-up .ensures) (c .enum-told .given .1))
 
 type-kind-requires : tie.Need-type-kind-requires
-type-kind-requires c κs = (c .before .before .before .before .before .pre, named _ _ (c .before .before .before .before .before .pre) _ _ (c .before .before .before .find-type .ensures) _ (c .before .j .given .1) .below)
+type-kind-requires c κs = (c .before .before .before .before .before .before .pre .0, named _ _ (c .before .before .before .before .before .before .pre .0) _ _ (c .before .before .before .look-up .ensures) _ (c .before .j .given .1) .below)
 
 returns-2 : tie.Need-returns-2
 unfolding foundInterface isInterface
-returns-2 c = let m = named _ _ (c .before .before .before .before .before .before .before .pre) _ _ (c .before .before .before .before .before .find-type .ensures) _ (c .before .before .before .j .given .1) in
+returns-2 c = let m = named _ _ (c .before .before .before .before .before .before .before .before .pre .0) _ _ (c .before .before .before .before .before .look-up .ensures) _ (c .before .before .before .j .given .1) in
     simp (m .there, eq-eqb _ _ (sym (kind-named _ _ _ _ _ m (c .before .type-kind .ensures)) ∙ c .if1 .taken), ← m .row)
 
 returns-3 : tie.Need-returns-3
 unfolding foundInterface isInterface
-returns-3 c = let m = named _ _ (c .before .before .before .before .before .before .before .pre) _ _ (c .before .before .before .before .before .find-type .ensures) _ (c .before .before .before .j .given .1) in
+returns-3 c = let m = named _ _ (c .before .before .before .before .before .before .before .before .pre .0) _ _ (c .before .before .before .before .before .look-up .ensures) _ (c .before .before .before .j .given .1) in
     simp (m .there, ne-eqb _ _ (rw (kind-named _ _ _ _ _ m (c .before .type-kind .ensures)) at (c .if1 .left)))
 
 pub find-interface-spec : {M : Type 1} → statement M
 find-interface-spec =
     tie.close
     (tie.spec
-    find-type-requires
+    look-up-requires
     enum-known-j
     enum-told
     returns

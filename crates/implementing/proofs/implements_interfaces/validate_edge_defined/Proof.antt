@@ -25,10 +25,10 @@ same-length : tie.Need-same-length
 same-length c = search needs
 
 returns : tie.Need-returns
-returns c = (simp (interface-none _ _ _ (c .before .before .before .before .before .before .before .before .before .before .pre) _ (c .before .before .before .before .before .before .before .find-interface .ensures) (c .before .before .before .before .before .enum-told2 .given .1), ← c .before .before .before .undefined-definition .ensures) (c .before .before .put .ensures .0), c .before .before .put .ensures .1)
+returns c = (simp (interface-none _ _ _ (c .before .before .before .before .before .before .before .before .before .before .before .pre .0) _ (c .before .before .before .before .before .before .before .find-interface .ensures) (c .before .before .before .before .before .enum-told2 .given .1), ← c .before .before .before .undefined-definition .ensures) (c .before .before .put .ensures .0), c .before .before .put .ensures .1)
 
 returns-2 : tie.Need-returns-2
-returns-2 c = (simp (interface-at _ _ _ (c .before .before .before .before .before .pre) _ (c .before .before .find-interface .ensures) _ (c .enum-told .given .1) .there) (emit-none _), omega arith)
+returns-2 c = (simp (interface-at _ _ _ (c .before .before .before .before .before .before .pre .0) _ (c .before .before .find-interface .ensures) _ (c .enum-told .given .1) .there) (emit-none _), omega arith)
 
 pub validate-edge-defined-spec : {M : Type 1} → statement M
 validate-edge-defined-spec =

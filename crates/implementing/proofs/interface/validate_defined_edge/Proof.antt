@@ -16,16 +16,16 @@ enum-told : tie.Need-enum-told
 enum-told c = search needs
 
 returns : tie.Need-returns
-returns c = (simp (interface-none _ _ _ (c .before .before .before .before .before .before .before .pre .0 .laid) _ (c .before .before .find-interface .ensures) (c .enum-told .given .1)) (emit-none _), omega arith)
+returns c = (simp (interface-none _ _ _ (c .before .before .before .before .before .before .before .before .pre .0 .laid) _ (c .before .before .find-interface .ensures) (c .enum-told .given .1)) (emit-none _), omega arith)
 
 validate-implemented-requires : tie.Need-validate-implemented-requires
-validate-implemented-requires c κs = (c .before .before .before .before .before .before .before .before .before .pre .0, (c .before .before .before .before .before .before .before .before .before .pre .1, interface-at _ _ _ (c .before .before .before .before .before .before .before .before .before .pre .0 .laid) _ (c .before .before .before .before .find-interface .ensures) _ (c .before .before .j .given .1) .below))
+validate-implemented-requires c κs = (c .before .before .before .before .before .before .before .before .before .before .pre .0, (c .before .before .before .before .before .before .before .before .before .before .pre .1 .0, (interface-at _ _ _ (c .before .before .before .before .before .before .before .before .before .before .pre .0 .laid) _ (c .before .before .before .before .find-interface .ensures) _ (c .before .before .j .given .1) .below, c .before .before .before .before .before .before .before .before .before .before .pre .1 .1)))
 
 same-length : tie.Need-same-length
 same-length c = search needs
 
 returns-2 : tie.Need-returns-2
-returns-2 c = let m = interface-at _ _ _ (c .before .before .before .before .before .before .before .before .before .before .before .before .pre .0 .laid) _ (c .before .before .before .before .before .before .before .find-interface .ensures) _ (c .before .before .before .before .before .j .given .1) in
+returns-2 c = let m = interface-at _ _ _ (c .before .before .before .before .before .before .before .before .before .before .before .before .before .pre .0 .laid) _ (c .before .before .before .before .before .before .before .find-interface .ensures) _ (c .before .before .before .before .before .j .given .1) in
     (simp (m .there, ← m .row) (c .before .before .validate-implemented .ensures .0), c .before .before .validate-implemented .ensures .1)
 
 pub validate-defined-edge-spec : {M : Type 1} → statement M

@@ -12,10 +12,10 @@ use Rattle.implementing.proofs.interface.validate_each_edge.Statement.{
 use Rattle.implementing.proofs.interface.validate_each_edge.Tie as tie
 
 abbrev Inv-loop : tie.InvT-loop
-Inv-loop rule words l t first edges ffirst fields out₀ n₀ i₀ out n i = (i ≤ length edges) × (n ≤ mostOfInterface * i) × Emitted (each (λ k. edgeRule rule words (t .0) edges ffirst fields (getD edges k 0) (first + k)) i) out₀ out n
+Inv-loop rule words l order t first edges ffirst fields out₀ n₀ i₀ out n i = (i ≤ length edges) × (n ≤ mostOfInterface * i) × Emitted (each (λ k. edgeRule rule words (t .0) edges ffirst fields (getD edges k 0) (first + k)) i) out₀ out n
 
 abbrev μ-loop : tie.MeasureT-loop
-μ-loop rule words l t first edges ffirst fields out₀ n₀ i₀ out n i = length edges - i
+μ-loop rule words l order t first edges ffirst fields out₀ n₀ i₀ out n i = length edges - i
 
 loop-holds : tie.Need-loop-holds Inv-loop μ-loop
 loop-holds c = (omega arith, omega arith, rw each-zero (emit-none _))
@@ -23,11 +23,11 @@ loop-holds c = (omega arith, omega arith, rw each-zero (emit-none _))
 used-requires : tie.Need-used-requires Inv-loop μ-loop
 used-requires c κs = search needs
 
-mul-t15 : tie.Need-mul-t15 Inv-loop μ-loop
-mul-t15 c = search needs
+mul-t16 : tie.Need-mul-t16 Inv-loop μ-loop
+mul-t16 c = search needs
 
-shared-slice-read-t17 : tie.Need-shared-slice-read-t17 Inv-loop μ-loop
-shared-slice-read-t17 c = search needs
+shared-slice-read-t18 : tie.Need-shared-slice-read-t18 Inv-loop μ-loop
+shared-slice-read-t18 c = search needs
 
 add-validate-edge : tie.Need-add-validate-edge Inv-loop μ-loop
 add-validate-edge c = search needs
@@ -67,7 +67,7 @@ same-length c = search needs
 
 returns : tie.Need-returns Inv-loop μ-loop
 unfolding eachEdge
-returns c = let e : c .before .loop .i ≡ length (c .before .before .before .before .before .before .args .edges .now) = omega arith in (rw e at (c .before .loop .inv .2), omega arith)
+returns c = let e : c .before .loop .i ≡ length (c .before .before .before .before .before .before .before .args .edges .now) = omega arith in (rw e at (c .before .loop .inv .2), omega arith)
 
 pub validate-each-edge-spec : {M : Type 1} → statement M
 validate-each-edge-spec =
@@ -77,8 +77,8 @@ validate-each-edge-spec =
     μ-loop
     loop-holds
     used-requires
-    mul-t15
-    shared-slice-read-t17
+    mul-t16
+    shared-slice-read-t18
     add-validate-edge
     cast-validate-edge
     mul-validate-edge

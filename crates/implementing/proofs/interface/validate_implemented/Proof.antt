@@ -28,7 +28,7 @@ fields-of-requires : tie.Need-fields-of-requires
 fields-of-requires c κs = search needs
 
 validate-interface-fields-requires : tie.Need-validate-interface-fields-requires
-validate-interface-fields-requires c κs = (c .before .before .before .before .before .before .before .before .before .before .pre .0, (c .before .before .before .before .before .before .before .before .before .before .pre .1 .0, rw (c .before .before .fields-start .ensures) (c .before .fields-of .ensures .1)))
+validate-interface-fields-requires c κs = (c .before .before .before .before .before .before .before .before .before .before .before .pre .0, (c .before .before .before .before .before .before .before .before .before .before .before .pre .1 .0, (rw (c .before .before .fields-start .ensures) (c .before .fields-of .ensures .1), c .before .before .before .before .before .before .before .before .before .before .before .pre .1 .1 .1)))
 
 same-length : tie.Need-same-length
 same-length c = search needs

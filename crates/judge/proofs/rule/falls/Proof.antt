@@ -1,18 +1,24 @@
 -- `falls`: where the field leads to no type nothing is asked, and else what the definition asks.
 use borrow.Author.Needs.{needs}
 use mathlib.Core.Path.{refl}
+use Rattle.order.proofs.OrderLaws.{helps-none}
 use Rattle.evidence.proofs.ChainLaws.{leads-at, leads-nowhere}
 use Rattle.judge.proofs.rule.falls.Statement.{statement}
 use Rattle.judge.proofs.rule.falls.Tie as tie
 
+led-to-requires : tie.Need-led-to-requires
+led-to-requires c κs =
+    let pre = c .before .before .before .pre in
+    (pre .0, (pre .1, helps-none _ _ _ refl))
+
 returns : tie.Need-returns
 returns c =
-    let pre = c .before .before .before .before .before .pre in
+    let pre = c .before .before .before .before .before .before .pre in
     rw (leads-nowhere _ _ _ (pre .0 .types) _ (c .before .before .led-to .ensures) (c .enum-told .given .1)) refl
 
 returns-2 : tie.Need-returns-2
 returns-2 c =
-    let pre = c .before .before .before .before .before .before .before .before .before .before .before .pre in
+    let pre = c .before .before .before .before .before .before .before .before .before .before .before .before .pre in
     let led-to-call = c .before .before .before .before .before .before .before .before .led-to in
     let found = c .before .before .before .before .before .before .u in
     let number-call = c .before .before .before .before .number in
@@ -24,7 +30,8 @@ pub falls-spec : {M : Type 1} → statement M
 falls-spec =
     tie.close
     (tie.spec
-    (λ c κs. search needs)  -- led-to-requires
+    (λ c. search needs)  -- slice-aggregate-led-to
+    led-to-requires
     (λ c. search needs)  -- enum-known-u
     (λ c. search needs)  -- enum-told
     returns

@@ -2,8 +2,9 @@
 use borrow.Author.Needs.{needs}
 use native.Mathlib.Omega.{arith}
 use mathlib.Core.Bool.{false}
-use mathlib.Core.Path.{_≡_, sym, _∙_}
+use mathlib.Core.Path.{_≡_, refl, sym, _∙_}
 use Prim.Native.Nat.{_≤_, _-_}
+use Rattle.order.proofs.OrderLaws.{helps-none}
 use Rattle.chains.specs.Fields.{chainGraph}
 use Rattle.evidence.specs.Rules.{any, comesIn}
 use Rattle.evidence.proofs.TestLaws.{any-of, any-none, any-more}
@@ -19,12 +20,17 @@ abbrev μ-loop : tie.MeasureT-loop
 loop-holds : tie.Need-loop-holds Inv-loop μ-loop
 loop-holds c = (search needs, any-none _)
 
+comes-in-requires : tie.Need-comes-in-requires Inv-loop μ-loop
+comes-in-requires c κs =
+    let pre = c .before .before .before .before .before .before .pre in
+    (pre, (c .before .if1 .taken, helps-none _ _ _ refl))
+
 returns : tie.Need-returns Inv-loop μ-loop
-returns c = sym (any-of _ _ _ (c .before .before .if1 .taken) (sym (c .before .comes-in .ensures) ∙ c .if2 .taken))
+returns c = sym (any-of _ _ _ (c .before .before .before .if1 .taken) (sym (c .before .comes-in .ensures) ∙ c .if2 .taken))
 
 loop-again : tie.Need-loop-again Inv-loop μ-loop
 loop-again c =
-    let loop = c .before .before .before .before .loop in
+    let loop = c .before .before .before .before .before .loop in
     (search needs, any-more _ _ (loop .inv .1) (sym (c .before .comes-in .ensures) ∙ c .if2 .left))
 
 returns-2 : tie.Need-returns-2 Inv-loop μ-loop
@@ -40,8 +46,9 @@ some-comes-in-spec =
     Inv-loop
     μ-loop
     loop-holds
-    (λ c. search needs)  -- cast-t9
-    (λ c κs. search needs)  -- comes-in-requires
+    (λ c. search needs)  -- slice-aggregate-comes-in
+    (λ c. search needs)  -- cast-t11
+    comes-in-requires
     returns
     (λ c. search needs)  -- add-s
     (λ c. search needs)  -- loop-less

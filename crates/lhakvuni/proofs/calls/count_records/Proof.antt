@@ -5,35 +5,37 @@ use Rattle.lhakvuni.proofs.OutputLaws.{end-emitted}
 use Rattle.lhakvuni.proofs.calls.count_records.Statement.{statement}
 use Rattle.lhakvuni.proofs.calls.count_records.Tie as tie
 
-mul-validate-schema : tie.Need-mul-validate-schema
-mul-validate-schema c = search needs
+mul-list-records : tie.Need-mul-list-records
+mul-list-records c = search needs
 
-sub-validate-schema : tie.Need-sub-validate-schema
-sub-validate-schema c = search needs
+sub-list-records : tie.Need-sub-list-records
+sub-list-records c = search needs
 
-part-validate-schema-start : tie.Need-part-validate-schema-start
-part-validate-schema-start c = search needs
+part-list-records-start : tie.Need-part-list-records-start
+part-list-records-start c = search needs
 
-part-validate-schema-end : tie.Need-part-validate-schema-end
-part-validate-schema-end c = search needs
+part-list-records-end : tie.Need-part-list-records-end
+part-list-records-end c = search needs
 
-validate-schema-requires : tie.Need-validate-schema-requires
-validate-schema-requires c κs = search needs
+list-records-requires : tie.Need-list-records-requires
+list-records-requires c κs = search needs
 
 same-length : tie.Need-same-length
 same-length c = search needs
 
 returns : tie.Need-returns
-returns c = (c .before .before .validate-schema .ensures .0 .count, (c .before .before .validate-schema .ensures .1, end-emitted _ _ _ _ _ refl (c .before .before .validate-schema .ensures .0)))
+returns c =
+    let e = c .before .before .list-records .ensures in
+    (e .0 .count, (e .1, end-emitted _ _ _ _ _ refl (e .0)))
 
 pub count-records-spec : {M : Type 1} → statement M
 count-records-spec =
     tie.close
     (tie.spec
-    mul-validate-schema
-    sub-validate-schema
-    part-validate-schema-start
-    part-validate-schema-end
-    validate-schema-requires
+    mul-list-records
+    sub-list-records
+    part-list-records-start
+    part-list-records-end
+    list-records-requires
     same-length
     returns)

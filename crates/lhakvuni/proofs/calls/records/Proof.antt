@@ -1,13 +1,28 @@
--- Each check that refuses leaves all as it was; past them the counts are filled in, the rows written if they fit, and the work words cleared.
+-- Each check that refuses leaves all as it was; past them the work table is prepared, the counts are filled in, the rows written if they
+-- fit, and the work words cleared.
 use borrow.Author.Needs.{needs}
-use mathlib.Core.Path.{refl}
+use mathlib.Core.Path.{sym}
 use native.Mathlib.Omega.{arith}
+use Rattle.table.specs.Sound.{Sound}
 use Rattle.table.proofs.AnswerLaws.{verdict-sound}
+use Rattle.rows.specs.Readable.{SoundRows}
+use Rattle.rows.proofs.PartLaws.{type-count}
+use Rattle.order.proofs.OrderLaws.{sound-apart}
+use Rattle.chains.proofs.HelpLaws.{helped-same}
 use Rattle.lhakvuni.proofs.NumberLaws.{header-there, sound-by, readable-by}
-use Rattle.lhakvuni.proofs.WorkLaws.{counts-room}
 use Rattle.lhakvuni.proofs.CallLaws.{records-table, records-work, records-given}
 use Rattle.lhakvuni.proofs.calls.records.Statement.{statement}
 use Rattle.lhakvuni.proofs.calls.records.Tie as tie
+
+abbrev entry : tie.After-enum-told → tie.Start
+entry c = c .before .before .before .before .before .before .before
+
+-- the verdict makes the table sound, and the layout its own
+sound : (c : tie.After-enum-told) → Sound (entry c .args .text .now) (entry c .args .words .now)
+sound c = verdict-sound _ _ _ (c .before .before .check-table .ensures .0) (c .enum-told .given .1)
+
+rows : (c : tie.After-layout-of) → SoundRows (entry (c .before) .args .words .now) (c .layout-of .result)
+rows c = sound-by (sound (c .before)) (c .layout-of .ensures .0)
 
 check-table-requires : tie.Need-check-table-requires
 check-table-requires c κs = search needs
@@ -22,34 +37,35 @@ enum-told : tie.Need-enum-told
 enum-told c = search needs
 
 layout-of-requires : tie.Need-layout-of-requires
-layout-of-requires c κs = header-there (verdict-sound _ _ _ (c .before .before .check-table .ensures .0) (c .enum-told .given .1))
+layout-of-requires c κs = header-there (sound c)
 
-mul-from : tie.Need-mul-from
-mul-from c = let h = sound-by (verdict-sound _ _ _ (c .before .before .before .before .check-table .ensures .0) (c .before .before .enum-told .given .1)) (c .before .layout-of .ensures .0) .laid .types-most in omega (arith, h)
-
-mul-to : tie.Need-mul-to
-mul-to c = let h = sound-by (verdict-sound _ _ _ (c .before .before .before .before .before .check-table .ensures .0) (c .before .before .before .enum-told .given .1)) (c .before .before .layout-of .ensures .0) .laid .types-most in omega (arith, h)
+mul-need : tie.Need-mul-need
+mul-need c = omega (arith, rows (c .before) .laid .types-most)
 
 returns-2 : tie.Need-returns-2
-returns-2 c = records-work _ _ _ (c .before .before .before .before .before .before .check-table .ensures .0) (c .before .before .before .before .enum-told .given .1) _ (c .before .before .before .layout-of .ensures .0) _ _ (c .if1 .taken)
+returns-2 c =
+    let d : tie.After-layout-of = c .before .before in
+    let v = d .before in
+    records-work _ _ _ (v .before .before .check-table .ensures .0) (v .enum-told .given .1) _ (d .layout-of .ensures .0) _ _ (c .if1 .taken)
+
+prepare-requires : tie.Need-prepare-requires
+prepare-requires c κs =
+    let d : tie.After-layout-of = c .before .before .before in
+    (rows d, (sound-apart (sound (d .before)), c .before .if1 .left))
 
 count-cycles-requires : tie.Need-count-cycles-requires
-count-cycles-requires c κs = (sound-by (verdict-sound _ _ _ (c .before .before .before .before .before .before .before .check-table .ensures .0) (c .before .before .before .before .before .enum-told .given .1)) (c .before .before .before .before .layout-of .ensures .0), c .before .if1 .left)
-
-mul-write-records : tie.Need-mul-write-records
-mul-write-records c = let h = sound-by (verdict-sound _ _ _ (c .before .before .before .before .before .before .before .before .before .before .check-table .ensures .0) (c .before .before .before .before .before .before .before .before .enum-told .given .1)) (c .before .before .before .before .before .before .before .layout-of .ensures .0) .laid .types-most in omega (arith, h)
-
-sub-write-records : tie.Need-sub-write-records
-sub-write-records c = search needs
-
-part-write-records-start : tie.Need-part-write-records-start
-part-write-records-start c = search needs
-
-part-write-records-end : tie.Need-part-write-records-end
-part-write-records-end c = search needs
+count-cycles-requires c κs =
+    let p = c .before .before .before in
+    (rows (p .before .before .before .before), (p .prepare .ensures .settled, p .prepare .ensures .helped))
 
 write-records-requires : tie.Need-write-records-requires
-write-records-requires c κs = (readable-by (verdict-sound _ _ _ (c .before .before .before .before .before .before .before .before .before .before .before .before .before .check-table .ensures .0) (c .before .before .before .before .before .before .before .before .before .before .before .enum-told .given .1)) (c .before .before .before .before .before .before .before .before .before .before .layout-of .ensures .0), counts-room _ _ _ _ (c .before .before .before .before .before .count-cycles .ensures) (c .before .before .before .before .before .before .before .if1 .left))
+write-records-requires c κs =
+    let n = c .before .before .before .before in
+    let p = n .before .before .before .before in
+    let d : tie.After-layout-of = p .before .before .before .before in (
+      readable-by (sound (d .before)) (d .layout-of .ensures .0),
+      helped-same (p .prepare .ensures .helped) _ (n .count-cycles .ensures .size) (rw (sym (type-count _ _ (rows d .laid))) at (n .count-cycles .ensures .rest)),
+    )
 
 clear-requires : tie.Need-clear-requires
 clear-requires c κs = search needs
@@ -61,7 +77,14 @@ same-length-2 : tie.Need-same-length-2
 same-length-2 c = search needs
 
 returns-3 : tie.Need-returns-3
-returns-3 c = records-given _ _ _ (c .before .before .before .before .before .before .before .before .before .before .before .before .before .before .before .before .before .before .before .before .check-table .ensures .0) (c .before .before .before .before .before .before .before .before .before .before .before .before .before .before .before .before .before .before .enum-told .given .1) _ (c .before .before .before .before .before .before .before .before .before .before .before .before .before .before .before .before .before .layout-of .ensures .0) _ _ _ _ _ _ _ (c .before .before .before .before .before .before .before .before .before .before .before .before .before .before .if1 .left) (c .before .before .before .before .before .before .before .before .before .before .before .before .count-cycles .ensures) refl (c .before .before .before .before .before .before .write-records .ensures) (c .before .before .clear .ensures)
+returns-3 c =
+    let w = c .before .before .before .before .before .before in
+    let n = w .before .before .before .before .before in
+    let p = n .before .before .before .before in
+    let d : tie.After-layout-of = p .before .before .before .before in
+    let v = d .before in
+    records-given _ _ _ (v .before .before .check-table .ensures .0) (v .enum-told .given .1) _ (d .layout-of .ensures .0)
+    _ _ _ _ _ _ _ (p .before .before .if1 .left) (p .prepare .ensures) (n .count-cycles .ensures) (w .write-records .ensures) (c .before .before .clear .ensures)
 
 pub records-spec : {M : Type 1} → statement M
 records-spec =
@@ -72,14 +95,10 @@ records-spec =
     returns
     enum-told
     layout-of-requires
-    mul-from
-    mul-to
+    mul-need
     returns-2
+    prepare-requires
     count-cycles-requires
-    mul-write-records
-    sub-write-records
-    part-write-records-start
-    part-write-records-end
     write-records-requires
     clear-requires
     same-length

@@ -15,16 +15,20 @@ same-length : tie.Need-same-length
 same-length c = search needs
 
 returns : tie.Need-returns
-returns c = records-short _ _ _ _ _ (c .before .before .before .count-records .ensures .0) refl (c .before .before .before .count-records .ensures .1 .1) (c .if1 .taken)
+returns c =
+    let n = c .before .before .before .count-records .ensures in
+    records-short _ _ _ _ _ (n .0) refl (n .1 .1) (c .if1 .taken)
 
-validate-schema-requires : tie.Need-validate-schema-requires
-validate-schema-requires c κs = search needs
+list-records-requires : tie.Need-list-records-requires
+list-records-requires c κs = search needs
 
 same-length-2 : tie.Need-same-length-2
 same-length-2 c = search needs
 
 returns-2 : tie.Need-returns-2
-returns-2 c = records-done _ _ _ _ _ (c .before .before .before .before .before .before .before .count-records .ensures .0) refl (c .before .before .before .before .before .before .before .count-records .ensures .1 .1) _ _ (c .before .before .before .before .if1 .left) (c .before .before .validate-schema .ensures .0)
+returns-2 c =
+    let n = c .before .before .before .before .before .before .before .count-records .ensures in
+    records-done _ _ _ _ _ (n .0) refl (n .1 .1) _ _ (c .before .before .before .before .if1 .left) (c .before .before .list-records .ensures .0)
 
 pub write-records-spec : {M : Type 1} → statement M
 write-records-spec =
@@ -34,6 +38,6 @@ write-records-spec =
     mul-need
     same-length
     returns
-    validate-schema-requires
+    list-records-requires
     same-length-2
     returns-2)

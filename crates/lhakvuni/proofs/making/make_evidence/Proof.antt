@@ -3,6 +3,7 @@ use borrow.Author.Needs.{needs}
 use mathlib.Core.Path.{refl}
 use native.Mathlib.Omega.{arith}
 use Rattle.table.proofs.AnswerLaws.{verdict-sound}
+use Rattle.order.proofs.OrderLaws.{sound-apart}
 use Rattle.lhakvuni.proofs.NumberLaws.{header-there, sound-by}
 use Rattle.lhakvuni.proofs.EvidenceLaws.{make-table, make-work, make-short, make-rooms, make-given}
 use Rattle.lhakvuni.proofs.making.make_evidence.Statement.{statement}
@@ -39,7 +40,7 @@ returns-3 : tie.Need-returns-3
 returns-3 c = make-short _ _ _ (c .before .before .before .before .before .before .before .before .before .before .check-table .ensures .0) (c .before .before .before .before .before .before .before .before .enum-told .given .1) _ (c .before .before .before .before .before .before .before .layout-of .ensures .0) _ _ (c .before .before .before .before .before .if1 .left) _ _ refl (c .before .before .before .before .if2 .taken) (c .before .before .clear .ensures)
 
 make-evidence-requires : tie.Need-make-evidence-requires
-make-evidence-requires c κs = (sound-by (verdict-sound _ _ _ (c .before .before .before .before .before .before .before .before .check-table .ensures .0) (c .before .before .before .before .before .before .enum-told .given .1)) (c .before .before .before .before .before .layout-of .ensures .0), make-rooms _ _ _ (c .before .before .before .before .before .before .before .before .check-table .ensures .0) (c .before .before .before .before .before .before .enum-told .given .1) _ (c .before .before .before .before .before .layout-of .ensures .0) _ _ (c .before .before .before .if1 .left) (c .before .before .if2 .left))
+make-evidence-requires c κs = (sound-by (verdict-sound _ _ _ (c .before .before .before .before .before .before .before .before .check-table .ensures .0) (c .before .before .before .before .before .before .enum-told .given .1)) (c .before .before .before .before .before .layout-of .ensures .0), (make-rooms _ _ _ (c .before .before .before .before .before .before .before .before .check-table .ensures .0) (c .before .before .before .before .before .before .enum-told .given .1) _ (c .before .before .before .before .before .layout-of .ensures .0) _ _ (c .before .before .before .if1 .left) (c .before .before .if2 .left), sound-apart (verdict-sound _ _ _ (c .before .before .before .before .before .before .before .before .check-table .ensures .0) (c .before .before .before .before .before .before .enum-told .given .1))))
 
 same-length-2 : tie.Need-same-length-2
 same-length-2 c = search needs

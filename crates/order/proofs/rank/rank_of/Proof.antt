@@ -1,55 +1,44 @@
--- The rank lies between low and high, the name at the middle tells in which half, and where they meet it is found.
+-- The rank lies in a range that each look narrows; where nothing is left of it, it is found.
 use borrow.Author.Needs.{needs}
 use native.Mathlib.Omega.{arith}
-use Prim.Native.Nat.{_+_, _-_, _/_, _<_}
-use Rattle.order.proofs.RankLaws.{Between, between-all, middle-of, upper-half, lower-half, between-none}
+use Prim.Native.Nat.{_-_}
+use Rattle.order.specs.Rank.{Between}
+use Rattle.order.proofs.RankLaws.{middle-of, between-none}
 use Rattle.order.proofs.rank.rank_of.Statement.{statement}
 use Rattle.order.proofs.rank.rank_of.Tie as tie
 
 abbrev Inv-loop : tie.InvT-loop
-Inv-loop words l order n name low₀ high₀ low high = Between words n order (name .0) low high
+Inv-loop words l order n name span₀ span = Between words n order (name .0) (span .low) (span .high)
 
 abbrev μ-loop : tie.MeasureT-loop
-μ-loop words l order n name low₀ high₀ low high = high - low
+μ-loop words l order n name span₀ span = span .high - span .low
+
+near-requires : tie.Need-near-requires Inv-loop μ-loop
+near-requires c κs = search needs
 
 loop-holds : tie.Need-loop-holds Inv-loop μ-loop
-loop-holds c = between-all _ _ _ _
+loop-holds c = c .near .ensures
 
 sub-middle : tie.Need-sub-middle Inv-loop μ-loop
 sub-middle c = search needs
 
 add-middle : tie.Need-add-middle Inv-loop μ-loop
-add-middle c = omega (arith, middle-of _ _ (c .loop-test .taken))
+add-middle c = omega (arith, middle-of _ _ (c .before .before .if1 .taken), c .before .before .before .before .loop .inv .within, c .before .before .before .before .before .before .before .before .pre .1 .1, c .before .before .before .before .before .before .before .before .pre .0 .types-most)
 
-mul-t11 : tie.Need-mul-t11 Inv-loop μ-loop
-mul-t11 c = omega (arith, middle-of _ _ (c .loop-test .taken))
-
-shared-slice-read-t14 : tie.Need-shared-slice-read-t14 Inv-loop μ-loop
-shared-slice-read-t14 c = omega (arith, middle-of _ _ (c .before .loop-test .taken))
-
-type-name-requires : tie.Need-type-name-requires Inv-loop μ-loop
-type-name-requires c κs =
-    let m = middle-of _ _ (c .before .loop-test .taken) in
-    let b : c .before .before .loop .low + (c .before .before .loop .high - c .before .before .loop .low) / 2 < c .before .before .before .before .before .args .n = omega arith in
-    (c .before .before .before .before .before .pre .0, omega (arith, c .before .before .before .before .before .pre .1 .0 .rows _ b))
-
-add-low : tie.Need-add-low Inv-loop μ-loop
-add-low c = omega (arith, middle-of _ _ (c .before .before .before .before .before .loop-test .taken))
+narrow-requires : tie.Need-narrow-requires Inv-loop μ-loop
+narrow-requires c κs =
+    let b = c .before .before .before .before in
+    let e = b .before .before .before .before in
+    (e .pre .0, (e .pre .1 .0, (e .pre .1 .1, (b .loop .inv, middle-of _ _ (c .before .before .if1 .taken)))))
 
 loop-less : tie.Need-loop-less Inv-loop μ-loop
-loop-less c = omega (arith, middle-of _ _ (c .before .before .before .before .before .loop-test .taken))
+loop-less c = c .narrow .ensures .1
 
 loop-again : tie.Need-loop-again Inv-loop μ-loop
-loop-again c = upper-half (c .before .before .before .before .before .before .before .before .before .pre .1 .0) (c .before .before .before .before .before .before .loop .inv) _ (middle-of _ _ (c .before .before .before .before .before .loop-test .taken)) (rw (c .before .before .before .type-name .ensures) at (c .if1 .taken))
-
-loop-less-2 : tie.Need-loop-less-2 Inv-loop μ-loop
-loop-less-2 c = omega (arith, middle-of _ _ (c .before .before .before .before .before .loop-test .taken))
-
-loop-again-2 : tie.Need-loop-again-2 Inv-loop μ-loop
-loop-again-2 c = lower-half (c .before .before .before .before .before .before .before .before .before .pre .1 .0) (c .before .before .before .before .before .before .loop .inv) _ (middle-of _ _ (c .before .before .before .before .before .loop-test .taken)) (rw (c .before .before .before .type-name .ensures) at (c .if1 .left))
+loop-again c = c .narrow .ensures .0
 
 returns : tie.Need-returns Inv-loop μ-loop
-returns c = between-none (c .before .loop .inv) (c .loop-test .left)
+returns c = between-none (c .before .before .loop .inv) (c .if1 .left)
 
 pub rank-of-spec : {M : Type 1} → statement M
 rank-of-spec =
@@ -57,15 +46,11 @@ rank-of-spec =
     (tie.spec
     Inv-loop
     μ-loop
+    near-requires
     loop-holds
     sub-middle
     add-middle
-    mul-t11
-    shared-slice-read-t14
-    type-name-requires
-    add-low
+    narrow-requires
     loop-less
     loop-again
-    loop-less-2
-    loop-again-2
     returns)

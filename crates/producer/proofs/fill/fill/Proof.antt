@@ -9,6 +9,7 @@ use Rattle.chains.specs.Fields.{chainGraph}
 use Rattle.evidence.specs.Words.{placeOf}
 use Rattle.producer.specs.Produced.{Filled, WordIs}
 use Rattle.producer.specs.Search.{Cleared}
+use Rattle.producer.proofs.Lookups.{helped-kept}
 use Rattle.producer.proofs.KnownLaws.{place-low, known-kept, word-kept}
 use Rattle.producer.proofs.PassLaws.{filled-none, filled-more, cleared-refl, cleared-join}
 use Rattle.producer.proofs.fill.fill.Statement.{statement}
@@ -30,7 +31,7 @@ word-for-requires c κs =
     let pre = c .before .before .before .before .before .before .before .before .pre in
     let loop = c .before .before .before .before .loop in
     let args = c .before .before .before .before .before .before .before .before .args in
-    (record { chained = pre .0 .chained; low = c .before .before .if1 .taken; clear = loop .inv .2 .clear }, known-kept (chainGraph (args .words .now)) (args .k) (loop .inv .1 .column) (pre .1))
+    (record { chained = pre .0 .chained; low = c .before .before .if1 .taken; clear = loop .inv .2 .clear; help = helped-kept _ _ _ (loop .inv .2 .rest) (pre .0 .help) }, known-kept (chainGraph (args .words .now)) (args .k) (loop .inv .1 .column) (pre .1))
 
 mul-out : tie.Need-mul-out Inv-loop μ-loop
 mul-out c =

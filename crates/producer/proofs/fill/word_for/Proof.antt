@@ -1,33 +1,34 @@
 -- `word_for`: each word is found by its own function, which asks for the words that are known for it.
 use borrow.Author.Needs.{needs}
+use Rattle.producer.proofs.Lookups.{helped-part}
 use Rattle.producer.proofs.PassLaws.{cleared-refl}
 use Rattle.producer.proofs.fill.word_for.Statement.{statement}
 use Rattle.producer.proofs.fill.word_for.Tie as tie
 
 leader-of-requires : tie.Need-leader-of-requires
 leader-of-requires c κs =
-    let pre = c .before .before .before .before .before .before .pre in
+    let pre = c .before .before .before .before .before .before .before .pre in
     (pre .0, rw (c .before .enum-told2 .given .1) at (pre .1))
 
 distance-of-requires : tie.Need-distance-of-requires
 distance-of-requires c κs =
-    let pre = c .before .before .before .before .before .before .pre in
+    let pre = c .before .before .before .before .before .before .before .pre in
     (pre .0, rw (c .before .enum-told3 .given .1) at (pre .1))
 
 depth-of-requires : tie.Need-depth-of-requires
 depth-of-requires c κs =
-    let pre = c .before .before .before .before .before .before .pre in
+    let pre = c .before .before .before .before .before .before .before .pre in
     (pre .0, rw (c .before .enum-told4 .given .1) at (pre .1))
 
 out-field-of-requires : tie.Need-out-field-of-requires
 out-field-of-requires c κs =
-    let pre = c .before .before .before .before .before .pre in
-    (pre .0 .chained, (pre .0 .low, rw (c .enum-told5 .given .1) at (pre .1)))
+    let pre = c .before .before .before .before .before .before .before .before .pre in
+    (pre .0 .chained, (pre .0 .low, (rw (c .before .before .enum-told5 .given .1) at (pre .1), helped-part _ _ _ (pre .0 .chained .types) (pre .0 .help))))
 
 in-field-of-requires : tie.Need-in-field-of-requires
 in-field-of-requires c κs =
-    let pre = c .before .before .before .before .before .pre in
-    (pre .0 .chained, (pre .0 .low, rw (c .enum-told6 .given .1) at (pre .1)))
+    let pre = c .before .before .before .before .before .before .before .before .pre in
+    (pre .0 .chained, (pre .0 .low, (rw (c .before .before .enum-told6 .given .1) at (pre .1), helped-part _ _ _ (pre .0 .chained .types) (pre .0 .help))))
 
 returns : tie.Need-returns
 returns c =
@@ -51,18 +52,19 @@ returns-4 c =
 
 returns-5 : tie.Need-returns-5
 returns-5 c =
-    let pre = c .before .before .before .before .before .before .pre in
-    (rw (c .before .enum-told5 .given .1) (c .out-field-of .ensures), cleared-refl (pre .0 .clear))
+    let pre = c .before .before .before .before .before .before .before .before .before .pre in
+    (rw (c .before .before .before .enum-told5 .given .1) (c .out-field-of .ensures), cleared-refl (pre .0 .clear))
 
 returns-6 : tie.Need-returns-6
 returns-6 c =
-    let pre = c .before .before .before .before .before .before .pre in
-    (rw (c .before .enum-told6 .given .1) (c .in-field-of .ensures), cleared-refl (pre .0 .clear))
+    let pre = c .before .before .before .before .before .before .before .before .before .pre in
+    (rw (c .before .before .before .enum-told6 .given .1) (c .in-field-of .ensures), cleared-refl (pre .0 .clear))
 
 pub word-for-spec : {M : Type 1} → statement M
 word-for-spec =
     tie.close
     (tie.spec
+    (λ c. search needs)  -- mul-order-at
     (λ c. search needs)  -- enum-told
     (λ c κs. search needs)  -- number-of-requires
     (λ c. search needs)  -- enum-told-2
@@ -72,8 +74,16 @@ word-for-spec =
     (λ c. search needs)  -- enum-told-4
     depth-of-requires
     (λ c. search needs)  -- enum-told-5
+    (λ c. search needs)  -- mul-out-field-of
+    (λ c. search needs)  -- sub-out-field-of
+    (λ c. search needs)  -- part-out-field-of-start
+    (λ c. search needs)  -- part-out-field-of-end
     out-field-of-requires
     (λ c. search needs)  -- enum-told-6
+    (λ c. search needs)  -- mul-in-field-of
+    (λ c. search needs)  -- sub-in-field-of
+    (λ c. search needs)  -- part-in-field-of-start
+    (λ c. search needs)  -- part-in-field-of-end
     in-field-of-requires
     (λ c. search needs)  -- same-length
     returns
@@ -83,5 +93,7 @@ word-for-spec =
     returns-3
     (λ c. search needs)  -- same-length-4
     returns-4
+    (λ c. search needs)  -- same-length-5
     returns-5
+    (λ c. search needs)  -- same-length-6
     returns-6)

@@ -17,19 +17,19 @@ use Rattle.producer.proofs.fitting.in_field_of.Statement.{statement}
 use Rattle.producer.proofs.fitting.in_field_of.Tie as tie
 
 abbrev Inv-loop : tie.InvT-loop
-Inv-loop words l t out s₀ s = (s ≤ l .types) × ((q : ℕ) → q < s → (f : ℕ) → comesIn (chainGraph words) out (t .0) f q ≡ true → ⊥)
+Inv-loop words l order t out s₀ s = (s ≤ l .types) × ((q : ℕ) → q < s → (f : ℕ) → comesIn (chainGraph words) out (t .0) f q ≡ true → ⊥)
 
 abbrev μ-loop : tie.MeasureT-loop
-μ-loop words l t out s₀ s = l .types - s
+μ-loop words l order t out s₀ s = l .types - s
 
 returns : tie.Need-returns Inv-loop μ-loop
 returns c =
-    let args = c .before .before .before .before .args in
+    let args = c .before .before .before .before .before .args in
     unmarked (unmarked-at (args .out .now) (args .t .0) (fails (c .before .marked .ensures) (c .if1 .taken)))
 
 returns-2 : tie.Need-returns-2 Inv-loop μ-loop
 returns-2 c =
-    let args = c .before .before .before .before .before .before .args in
+    let args = c .before .before .before .before .before .before .before .args in
     let marked-call = c .before .before .before .marked in
     in-leads (chainGraph (args .words .now)) (args .out .now) (args .t .0) (marked-at (args .out .now) (args .t .0) (passes (marked-call .ensures) (c .before .before .if1 .left))) (eqb-true _ _ (sym (c .before .leads .ensures) ∙ c .if2 .taken))
 
@@ -38,8 +38,8 @@ loop-holds c = (search needs, λ q l. absurd (omega arith))
 
 returns-3 : tie.Need-returns-3 Inv-loop μ-loop
 returns-3 c =
-    let args = c .before .before .before .before .before .before .before .before .before .before .before .before .args in
-    let pre = c .before .before .before .before .before .before .before .before .before .before .before .before .pre in
+    let args = c .before .before .before .before .before .before .before .before .before .before .before .before .before .args in
+    let pre = c .before .before .before .before .before .before .before .before .before .before .before .before .before .pre in
     let loop = c .before .before .before .before .before .loop in
     let if3 = c .before .before .before .if3 in
     let marked-call = c .before .before .before .before .before .before .before .before .before .marked in
@@ -51,19 +51,19 @@ returns-3 c =
 loop-again : tie.Need-loop-again Inv-loop μ-loop
 loop-again c =
     let loop = c .before .before .before .before .before .loop in
-    let args = c .before .before .before .before .before .before .before .before .before .before .before .before .args in
+    let args = c .before .before .before .before .before .before .before .before .before .before .before .before .before .args in
     (search needs, below-more _ (loop .s) (loop .inv .1) (from-not (chainGraph (args .words .now)) (args .out .now) (c .before .before .in-from .ensures) (c .if4 .left)))
 
 returns-4 : tie.Need-returns-4 Inv-loop μ-loop
 returns-4 c =
-    let args = c .before .before .before .before .before .before .before .before .before .args in
-    let pre = c .before .before .before .before .before .before .before .before .before .pre in
+    let args = c .before .before .before .before .before .before .before .before .before .before .args in
+    let pre = c .before .before .before .before .before .before .before .before .before .before .pre in
     let marked-call = c .before .before .before .before .before .before .marked in
     let if1 = c .before .before .before .before .before .if1 in
     let leads-call = c .before .before .before .before .leads in
     let if2 = c .before .before .before .if2 in
     let few : typeCount (args .words .now) ≤ none = omega (arith, pre .0 .types, pre .0 .types-few) in
-    absurd (in-never (chainGraph (args .words .now)) few (args .out .now) (pre .1 .1) (args .t .0) (rw (pre .0 .types) at (pre .1 .0)) (marked-at (args .out .now) (args .t .0) (passes (marked-call .ensures) (if1 .left))) (eqb-false _ _ (sym (leads-call .ensures) ∙ if2 .left)) (λ q b. c .before .before .loop .inv .1 q (omega (arith, pre .0 .types))))
+    absurd (in-never (chainGraph (args .words .now)) few (args .out .now) (pre .1 .1 .0) (args .t .0) (rw (pre .0 .types) at (pre .1 .0)) (marked-at (args .out .now) (args .t .0) (passes (marked-call .ensures) (if1 .left))) (eqb-false _ _ (sym (leads-call .ensures) ∙ if2 .left)) (λ q b. c .before .before .loop .inv .1 q (omega (arith, pre .0 .types))))
 
 pub in-field-of-spec : {M : Type 1} → statement M
 in-field-of-spec =
@@ -76,7 +76,7 @@ in-field-of-spec =
     (λ c κs. search needs)  -- leads-requires
     returns-2
     loop-holds
-    (λ c. search needs)  -- cast-t13
+    (λ c. search needs)  -- cast-t14
     (λ c κs. search needs)  -- in-from-requires
     returns-3
     (λ c. search needs)  -- add-s

@@ -14,34 +14,34 @@ use Rattle.producer.proofs.fitting.in_from.Statement.{statement}
 use Rattle.producer.proofs.fitting.in_from.Tie as tie
 
 abbrev Inv-loop : tie.InvT-loop
-Inv-loop words l t s out end f₀ f = (fieldsStart words (s .0) ≤ f) × ((h : ℕ) → h < f → comesIn (chainGraph words) out (t .0) h (s .0) ≡ true → ⊥)
+Inv-loop words l order t s out end f₀ f = (fieldsStart words (s .0) ≤ f) × ((h : ℕ) → h < f → comesIn (chainGraph words) out (t .0) h (s .0) ≡ true → ⊥)
 
 abbrev μ-loop : tie.MeasureT-loop
-μ-loop words l t s out end f₀ f = end - f
+μ-loop words l order t s out end f₀ f = end - f
 
 returns : tie.Need-returns Inv-loop μ-loop
 returns c =
-    let args = c .before .before .before .before .args in
+    let args = c .before .before .before .before .before .args in
     from-far (chainGraph (args .words .now)) (args .out .now) (args .t .0) (args .s .0) (fails (c .before .nearer .ensures) (c .if1 .taken))
 
 loop-holds : tie.Need-loop-holds Inv-loop μ-loop
 loop-holds c =
-    let args = c .before .before .before .before .before .before .args in
+    let args = c .before .before .before .before .before .before .before .args in
     let e = c .fields-start .ensures in
     (omega arith, λ h b. comes-before (chainGraph (args .words .now)) (args .out .now) (args .t .0) (args .s .0) h (omega arith))
 
 cast-result : tie.Need-cast-result Inv-loop μ-loop
 cast-result c =
-    let pre = c .before .before .before .before .before .before .before .before .before .before .pre in
-    let args = c .before .before .before .before .before .before .before .before .before .before .args in
-    omega (arith, pre .0 .inside (args .s .0) (pre .1))
+    let pre = c .before .before .before .before .before .before .before .before .before .before .before .pre in
+    let args = c .before .before .before .before .before .before .before .before .before .before .before .args in
+    omega (arith, pre .0 .inside (args .s .0) (pre .1 .0))
 
 returns-2 : tie.Need-returns-2 Inv-loop μ-loop
 returns-2 c =
-    let args = c .before .before .before .before .before .before .before .before .before .before .args in
+    let args = c .before .before .before .before .before .before .before .before .before .before .before .args in
     let loop = c .before .before .before .loop in
-    let pre = c .before .before .before .before .before .before .before .before .before .before .pre in
-    from-first (chainGraph (args .words .now)) (args .out .now) (args .t .0) (args .s .0) (loop .f) (omega (arith, pre .0 .inside (args .s .0) (pre .1))) (sym (c .before .comes-in .ensures) ∙ c .if2 .taken) (loop .inv .1)
+    let pre = c .before .before .before .before .before .before .before .before .before .before .before .pre in
+    from-first (chainGraph (args .words .now)) (args .out .now) (args .t .0) (args .s .0) (loop .f) (omega (arith, pre .0 .inside (args .s .0) (pre .1 .0))) (sym (c .before .comes-in .ensures) ∙ c .if2 .taken) (loop .inv .1)
 
 loop-again : tie.Need-loop-again Inv-loop μ-loop
 loop-again c =
@@ -50,7 +50,7 @@ loop-again c =
 
 returns-3 : tie.Need-returns-3 Inv-loop μ-loop
 returns-3 c =
-    let args = c .before .before .before .before .before .before .before .before .args in
+    let args = c .before .before .before .before .before .before .before .before .before .args in
     let b : chainsEnd (args .words .now) (args .s .0) ≤ c .before .loop .f = omega arith in
     from-none (chainGraph (args .words .now)) (args .out .now) (args .t .0) (args .s .0) (c .before .loop .f) b (c .before .loop .inv .1)
 

@@ -28,7 +28,7 @@ level-requires c κs =
     let leader-call = c .before .before .before .before .before .before .before .leader in
     let if1 = c .before .before .before .before .if1 in
     let e = pre .0 .chained .types in
-    (record { chained = pre .0 .chained; low = rw e (leader-type (chainGraph (args .words .now)) (args .out .now) (args .t .0) (pre .1 (args .t .0) (rw e at (pre .0 .low))) (leader-call .ensures) (if1 .left)); clear = pre .0 .clear }, pre .0 .low)
+    (record { chained = pre .0 .chained; low = rw e (leader-type (chainGraph (args .words .now)) (args .out .now) (args .t .0) (pre .1 (args .t .0) (rw e at (pre .0 .low))) (leader-call .ensures) (if1 .left)); clear = pre .0 .clear; help = pre .0 .help }, pre .0 .low)
 
 returns-3 : tie.Need-returns-3
 returns-3 c =

@@ -7,6 +7,7 @@ use Prim.Native.Nat.{_+_, _≤_, _-_}
 use Rattle.chains.specs.Fields.{chainGraph}
 use Rattle.evidence.proofs.Counts.{count-low}
 use Rattle.producer.proofs.Levels.{Searching, searching-first, searching-more, searched}
+use Rattle.producer.proofs.Lookups.{helped-kept}
 use Rattle.producer.proofs.Reach.{listed-none}
 use Rattle.producer.proofs.search.search.Statement.{statement}
 use Rattle.producer.proofs.search.search.Tie as tie
@@ -20,14 +21,14 @@ abbrev μ-loop : tie.MeasureT-loop
 visit-requires : tie.Need-visit-requires Inv-loop μ-loop
 visit-requires c κs =
     let pre = c .before .before .before .pre in
-    (pre .0, (pre .1 .0, record { listed = listed-none _ _ (pre .1 .1 .room) (λ u l. pre .1 .1 .zero u (omega arith)); some = omega arith }))
+    (pre .chained, (pre .low, record { listed = listed-none _ _ (pre .clear .room) (λ u l. pre .clear .zero u (omega arith)); some = omega arith; help = pre .help }))
 
 loop-holds : tie.Need-loop-holds Inv-loop μ-loop
 loop-holds c =
     let args = c .before .before .before .before .before .before .args in
     let pre = c .before .before .before .before .before .before .pre in
     let k = count-low (c .before .before .visit .ensures .grown .listed .count) in
-    (omega arith, omega arith, searching-first (chainGraph (args .words .now)) (λ u l. pre .1 .1 .zero u (omega arith)) (c .before .before .visit .ensures))
+    (omega arith, omega arith, searching-first (chainGraph (args .words .now)) (λ u l. pre .clear .zero u (omega arith)) (c .before .before .visit .ensures))
 
 slice-read-s : tie.Need-slice-read-s Inv-loop μ-loop
 slice-read-s c = let r = c .before .before .loop .inv .2 .listed .room in omega arith
@@ -48,21 +49,21 @@ slice-read-level c =
     let pre = c .before .before .before .before .before .before .before .before .before .before .pre in
     let b = loop .inv .2 .listed .types-only (loop .head) (c .before .before .loop-test .taken) in
     let r = loop .inv .2 .listed .room in
-    rw (pre .0 .types) (omega arith)
+    rw (pre .chained .types) (omega arith)
 
 add-visit : tie.Need-add-visit Inv-loop μ-loop
 add-visit c =
     let loop = c .before .before .before .loop in
     let pre = c .before .before .before .before .before .before .before .before .before .before .pre in
     let b = loop .inv .2 .small (loop .head) (c .before .before .loop-test .taken) in
-    rw (pre .0 .types) (omega arith)
+    rw (pre .chained .types) (omega arith)
 
 visit-requires-2 : tie.Need-visit-requires-2 Inv-loop μ-loop
 visit-requires-2 c κs =
     let pre = c .before .before .before .before .before .before .before .before .before .before .before .pre in
     let loop = c .before .before .before .before .loop in
     let test = c .before .before .before .loop-test in
-    (pre .0, (let b = loop .inv .2 .listed .types-only (loop .head) (test .taken) in rw (pre .0 .types) (omega arith), record { listed = loop .inv .2 .listed; some = omega arith }))
+    (pre .chained, (let b = loop .inv .2 .listed .types-only (loop .head) (test .taken) in rw (pre .chained .types) (omega arith), record { listed = loop .inv .2 .listed; some = omega arith; help = helped-kept _ _ _ (loop .inv .2 .rest ∙ c .before .before .before .before .before .before .before .visit .ensures .grown .rest) (pre .help) }))
 
 loop-again : tie.Need-loop-again Inv-loop μ-loop
 loop-again c =
@@ -70,7 +71,7 @@ loop-again c =
     let test = c .before .before .before .before .before .before .loop-test in
     let args = c .before .before .before .before .before .before .before .before .before .before .before .before .before .before .args in
     let loop = c .before .before .before .before .before .before .before .loop in
-    let v = rw (pre .0 .types) at (c .before .before .visit2 .ensures) in
+    let v = rw (pre .chained .types) at (c .before .before .visit2 .ensures) in
     let m = v .grown .more in
     let l = test .taken in
     let k = count-low (v .grown .listed .count) in

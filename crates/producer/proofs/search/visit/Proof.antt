@@ -6,6 +6,7 @@ use Prim.Native.Nat.{_≤_, _<_, _-_}
 use Rattle.table.specs.Layout.{fieldsStart}
 use Rattle.chains.specs.Fields.{chainsEnd, chainGraph}
 use Rattle.producer.specs.Search.{Visited}
+use Rattle.producer.proofs.Lookups.{helped-kept}
 use Rattle.producer.proofs.Reach.{visited-none, visited-more, visited-all}
 use Rattle.producer.proofs.search.visit.Statement.{statement}
 use Rattle.producer.proofs.search.visit.Tie as tie
@@ -26,7 +27,7 @@ enter-requires : tie.Need-enter-requires Inv-loop μ-loop
 enter-requires c κs =
     let pre = c .before .before .before .before .before .before .before .pre in
     let args = c .before .before .before .before .before .before .before .args in
-    (pre .0, (omega (arith, pre .0 .inside (args .s .0) (pre .1 .0)), record { listed = c .before .before .loop .inv .1 .grown .listed; some = pre .1 .1 .some }))
+    (pre .0, (omega (arith, pre .0 .inside (args .s .0) (pre .1 .0)), record { listed = c .before .before .loop .inv .1 .grown .listed; some = pre .1 .1 .some; help = helped-kept _ _ _ (c .before .before .loop .inv .1 .grown .rest) (pre .1 .1 .help) }))
 
 loop-again : tie.Need-loop-again Inv-loop μ-loop
 loop-again c =

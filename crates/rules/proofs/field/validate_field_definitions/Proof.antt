@@ -12,10 +12,10 @@ use Rattle.rules.proofs.field.validate_field_definitions.Statement.{sta
 use Rattle.rules.proofs.field.validate_field_definitions.Tie as tie
 
 abbrev Inv-loop : tie.InvT-loop
-Inv-loop text words l t first fields out₀ rows n₀ i₀ out n i = (i ≤ fieldRows fields) × (rows ≡ fieldRows fields) × (n ≤ mostOfField * i) × Emitted (each (fieldRecord text words (t .0) first fields) i) out₀ out n
+Inv-loop text words l order t first fields out₀ rows n₀ i₀ out n i = (i ≤ fieldRows fields) × (rows ≡ fieldRows fields) × (n ≤ mostOfField * i) × Emitted (each (fieldRecord text words (t .0) first fields) i) out₀ out n
 
 abbrev μ-loop : tie.MeasureT-loop
-μ-loop text words l t first fields out₀ rows n₀ i₀ out n i = fieldRows fields - i
+μ-loop text words l order t first fields out₀ rows n₀ i₀ out n i = fieldRows fields - i
 
 field-rows-requires : tie.Need-field-rows-requires Inv-loop μ-loop
 field-rows-requires c κs = search needs
@@ -39,7 +39,7 @@ part-validate-field-end : tie.Need-part-validate-field-end Inv-loop μ-loop
 part-validate-field-end c = search needs
 
 validate-field-requires : tie.Need-validate-field-requires Inv-loop μ-loop
-validate-field-requires c κs = (c .before .before .before .before .before .before .before .before .before .pre .0, ((search needs, rw (c .before .before .before .loop .inv .1) at (c .before .before .loop-test .taken)), c .before .before .before .before .before .before .before .before .before .pre .1 .1))
+validate-field-requires c κs = (c .before .before .before .before .before .before .before .before .before .before .pre .0, ((search needs, rw (c .before .before .before .loop .inv .1) at (c .before .before .loop-test .taken)), (c .before .before .before .before .before .before .before .before .before .before .pre .1 .1 .0, c .before .before .before .before .before .before .before .before .before .before .pre .1 .1 .1)))
 
 add-n : tie.Need-add-n Inv-loop μ-loop
 add-n c = search needs
@@ -58,7 +58,7 @@ same-length c = search needs
 
 returns : tie.Need-returns Inv-loop μ-loop
 unfolding fieldsRecords
-returns c = let e : c .before .loop .i ≡ fieldRows (c .before .before .before .before .before .before .before .args .fields .now) = omega arith in (rw e at (c .before .loop .inv .3), omega arith)
+returns c = let e : c .before .loop .i ≡ fieldRows (c .before .before .before .before .before .before .before .before .args .fields .now) = omega arith in (rw e at (c .before .loop .inv .3), omega arith)
 
 pub validate-field-definitions-spec : {M : Type 1} → statement M
 validate-field-definitions-spec =

@@ -9,8 +9,8 @@ use Rattle.rules.specs.Field.{outputTypeRecord}
 use Rattle.rules.proofs.field.validate_output_type.Statement.{statement}
 use Rattle.rules.proofs.field.validate_output_type.Tie as tie
 
-find-type-requires : tie.Need-find-type-requires
-find-type-requires c κs = search needs
+look-up-requires : tie.Need-look-up-requires
+look-up-requires c κs = search needs
 
 enum-told : tie.Need-enum-told
 enum-told c = search needs
@@ -20,7 +20,7 @@ is-builtin-requires c κs = search needs
 
 returns : tie.Need-returns
 unfolding outputTypeRecord
-returns c = let m = unnamed _ _ (c .before .before .before .before .before .before .before .before .pre .0 .sound .laid) _ _ (c .before .before .before .before .find-type .ensures) (c .before .before .enum-told .given .1) in
+returns c = let m = unnamed _ _ (c .before .before .before .before .before .before .before .before .before .pre .0 .sound .laid) _ _ (c .before .before .before .before .look-up .ensures) (c .before .before .enum-told .given .1) in
     (simp (m, sym (c .before .is-builtin .ensures) ∙ c .if1 .taken) (emit-none _), omega arith)
 
 undefined-definition-requires : tie.Need-undefined-definition-requires
@@ -33,7 +33,7 @@ enum-known-ty : tie.Need-enum-known-ty
 enum-known-ty c = search needs
 
 type-kind-requires : tie.Need-type-kind-requires
-type-kind-requires c κs = (c .before .before .before .before .before .before .before .pre .0 .sound .laid, named _ _ (c .before .before .before .before .before .before .before .pre .0 .sound .laid) _ _ (c .before .before .before .find-type .ensures) _ (c .before .ty .given .1) .below)
+type-kind-requires c κs = (c .before .before .before .before .before .before .before .before .pre .0 .sound .laid, named _ _ (c .before .before .before .before .before .before .before .before .pre .0 .sound .laid) _ _ (c .before .before .before .look-up .ensures) _ (c .before .ty .given .1) .below)
 
 output-type-requires : tie.Need-output-type-requires
 output-type-requires c κs = search needs
@@ -46,7 +46,7 @@ same-length c = search needs
 
 returns-2 : tie.Need-returns-2
 unfolding outputTypeRecord
-returns-2 c = let m = named _ _ (c .before .before .before .before .before .before .before .before .before .before .before .before .before .before .pre .0 .sound .laid) _ _ (c .before .before .before .before .before .before .before .before .before .before .find-type .ensures) _ (c .before .before .before .before .before .before .before .before .ty .given .1) in
+returns-2 c = let m = named _ _ (c .before .before .before .before .before .before .before .before .before .before .before .before .before .before .before .pre .0 .sound .laid) _ _ (c .before .before .before .before .before .before .before .before .before .before .look-up .ensures) _ (c .before .before .before .before .before .before .before .before .ty .given .1) in
     (simp (m .there, eq-eqb _ _ (sym (kind-named _ _ _ _ _ m (c .before .before .before .before .before .before .type-kind .ensures)) ∙ c .before .before .before .before .before .if2 .taken), ← c .before .before .before .output-type .ensures) (c .before .before .put2 .ensures .0), c .before .before .put2 .ensures .1)
 
 same-length-2 : tie.Need-same-length-2
@@ -54,19 +54,19 @@ same-length-2 c = search needs
 
 returns-3 : tie.Need-returns-3
 unfolding outputTypeRecord
-returns-3 c = let m = unnamed _ _ (c .before .before .before .before .before .before .before .before .before .before .before .before .before .pre .0 .sound .laid) _ _ (c .before .before .before .before .before .before .before .before .before .find-type .ensures) (c .before .before .before .before .before .before .before .enum-told .given .1) in
+returns-3 c = let m = unnamed _ _ (c .before .before .before .before .before .before .before .before .before .before .before .before .before .before .pre .0 .sound .laid) _ _ (c .before .before .before .before .before .before .before .before .before .look-up .ensures) (c .before .before .before .before .before .before .before .enum-told .given .1) in
     (simp (m, sym (c .before .before .before .before .before .before .is-builtin .ensures) ∙ c .before .before .before .before .before .if1 .left, ← c .before .before .before .undefined-definition .ensures) (c .before .before .put .ensures .0), c .before .before .put .ensures .1)
 
 returns-4 : tie.Need-returns-4
 unfolding outputTypeRecord
-returns-4 c = let m = named _ _ (c .before .before .before .before .before .before .before .before .before .pre .0 .sound .laid) _ _ (c .before .before .before .before .before .find-type .ensures) _ (c .before .before .before .ty .given .1) in
+returns-4 c = let m = named _ _ (c .before .before .before .before .before .before .before .before .before .before .pre .0 .sound .laid) _ _ (c .before .before .before .before .before .look-up .ensures) _ (c .before .before .before .ty .given .1) in
     (simp (m .there, ne-eqb _ _ (rw (kind-named _ _ _ _ _ m (c .before .type-kind .ensures)) at (c .if2 .left))) (emit-none _), omega arith)
 
 pub validate-output-type-spec : {M : Type 1} → statement M
 validate-output-type-spec =
     tie.close
     (tie.spec
-    find-type-requires
+    look-up-requires
     enum-told
     is-builtin-requires
     returns

@@ -11,10 +11,10 @@ use Rattle.rules.proofs.input_object.validate_argument_values.Statement
 use Rattle.rules.proofs.input_object.validate_argument_values.Tie as tie
 
 abbrev Inv-loop : tie.InvT-loop
-Inv-loop text words l t first arguments out₀ rows n₀ i₀ out n i = (i ≤ argumentRows arguments) × (rows ≡ argumentRows arguments) × (n ≤ 2 * i) × Emitted (each (argumentRecord text words (t .0) first arguments) i) out₀ out n
+Inv-loop text words l order t first arguments out₀ rows n₀ i₀ out n i = (i ≤ argumentRows arguments) × (rows ≡ argumentRows arguments) × (n ≤ 2 * i) × Emitted (each (argumentRecord text words (t .0) first arguments) i) out₀ out n
 
 abbrev μ-loop : tie.MeasureT-loop
-μ-loop text words l t first arguments out₀ rows n₀ i₀ out n i = argumentRows arguments - i
+μ-loop text words l order t first arguments out₀ rows n₀ i₀ out n i = argumentRows arguments - i
 
 argument-rows-requires : tie.Need-argument-rows-requires Inv-loop μ-loop
 argument-rows-requires c κs = search needs
@@ -50,7 +50,7 @@ part-validate-input-value-end : tie.Need-part-validate-input-value-end Inv-loop 
 part-validate-input-value-end c = search needs
 
 validate-input-value-requires : tie.Need-validate-input-value-requires Inv-loop μ-loop
-validate-input-value-requires c κs = (c .before .before .before .before .before .before .before .before .before .before .before .pre .0, (search needs, rw (c .before .before .argument-name .ensures) (c .before .before .before .before .before .before .before .before .before .before .before .pre .1 .1 .names _ (rw (c .before .before .before .before .before .loop .inv .1) at (c .before .before .before .before .loop-test .taken))), rw (c .before .argument-type .ensures) (c .before .before .before .before .before .before .before .before .before .before .before .pre .1 .1 .types _ (rw (c .before .before .before .before .before .loop .inv .1) at (c .before .before .before .before .loop-test .taken)))))
+validate-input-value-requires c κs = (c .before .before .before .before .before .before .before .before .before .before .before .before .pre .0, ((search needs, rw (c .before .before .argument-name .ensures) (c .before .before .before .before .before .before .before .before .before .before .before .before .pre .1 .1 .0 .names _ (rw (c .before .before .before .before .before .loop .inv .1) at (c .before .before .before .before .loop-test .taken))), rw (c .before .argument-type .ensures) (c .before .before .before .before .before .before .before .before .before .before .before .before .pre .1 .1 .0 .types _ (rw (c .before .before .before .before .before .loop .inv .1) at (c .before .before .before .before .loop-test .taken)))), c .before .before .before .before .before .before .before .before .before .before .before .before .pre .1 .1 .1))
 
 add-n : tie.Need-add-n Inv-loop μ-loop
 add-n c = search needs
@@ -69,7 +69,7 @@ same-length : tie.Need-same-length Inv-loop μ-loop
 same-length c = search needs
 
 returns : tie.Need-returns Inv-loop μ-loop
-returns c = let e : c .before .loop .i ≡ argumentRows (c .before .before .before .before .before .before .before .args .arguments .now) = omega arith in (rw e at (c .before .loop .inv .3), omega arith)
+returns c = let e : c .before .loop .i ≡ argumentRows (c .before .before .before .before .before .before .before .before .args .arguments .now) = omega arith in (rw e at (c .before .loop .inv .3), omega arith)
 
 pub validate-argument-values-spec : {M : Type 1} → statement M
 validate-argument-values-spec =

@@ -8,8 +8,8 @@ use Rattle.rules.specs.InputObject.{inputTypeRecord}
 use Rattle.rules.proofs.input_object.validate_input_type.Statement.{statement}
 use Rattle.rules.proofs.input_object.validate_input_type.Tie as tie
 
-find-type-requires : tie.Need-find-type-requires
-find-type-requires c κs = search needs
+look-up-requires : tie.Need-look-up-requires
+look-up-requires c κs = search needs
 
 enum-told : tie.Need-enum-told
 enum-told c = search needs
@@ -19,7 +19,7 @@ is-builtin-requires c κs = search needs
 
 returns : tie.Need-returns
 unfolding inputTypeRecord
-returns c = let m = unnamed _ _ (c .before .before .before .before .before .before .before .before .pre .0 .sound .laid) _ _ (c .before .before .before .before .find-type .ensures) (c .before .before .enum-told .given .1) in
+returns c = let m = unnamed _ _ (c .before .before .before .before .before .before .before .before .before .pre .0 .sound .laid) _ _ (c .before .before .before .before .look-up .ensures) (c .before .before .enum-told .given .1) in
     (simp (m, sym (c .before .is-builtin .ensures) ∙ c .if1 .taken) (emit-none _), omega arith)
 
 undefined-definition-requires : tie.Need-undefined-definition-requires
@@ -32,14 +32,14 @@ enum-known-ty : tie.Need-enum-known-ty
 enum-known-ty c = search needs
 
 type-kind-requires : tie.Need-type-kind-requires
-type-kind-requires c κs = (c .before .before .before .before .before .before .before .pre .0 .sound .laid, named _ _ (c .before .before .before .before .before .before .before .pre .0 .sound .laid) _ _ (c .before .before .before .find-type .ensures) _ (c .before .ty .given .1) .below)
+type-kind-requires c κs = (c .before .before .before .before .before .before .before .before .pre .0 .sound .laid, named _ _ (c .before .before .before .before .before .before .before .before .pre .0 .sound .laid) _ _ (c .before .before .before .look-up .ensures) _ (c .before .ty .given .1) .below)
 
 is-input-kind-requires : tie.Need-is-input-kind-requires
 is-input-kind-requires c κs = search needs
 
 returns-2 : tie.Need-returns-2
 unfolding inputTypeRecord
-returns-2 c = let m = named _ _ (c .before .before .before .before .before .before .before .before .before .before .pre .0 .sound .laid) _ _ (c .before .before .before .before .before .before .find-type .ensures) _ (c .before .before .before .before .ty .given .1) in
+returns-2 c = let m = named _ _ (c .before .before .before .before .before .before .before .before .before .before .before .pre .0 .sound .laid) _ _ (c .before .before .before .before .before .before .look-up .ensures) _ (c .before .before .before .before .ty .given .1) in
     (simp (m .there, rw (kind-named _ _ _ _ _ m (c .before .before .type-kind .ensures)) at (sym (c .before .is-input-kind .ensures) ∙ c .if2 .taken)) (emit-none _), omega arith)
 
 input-type-requires : tie.Need-input-type-requires
@@ -53,7 +53,7 @@ same-length c = search needs
 
 returns-3 : tie.Need-returns-3
 unfolding inputTypeRecord
-returns-3 c = let m = unnamed _ _ (c .before .before .before .before .before .before .before .before .before .before .before .before .before .pre .0 .sound .laid) _ _ (c .before .before .before .before .before .before .before .before .before .find-type .ensures) (c .before .before .before .before .before .before .before .enum-told .given .1) in
+returns-3 c = let m = unnamed _ _ (c .before .before .before .before .before .before .before .before .before .before .before .before .before .before .pre .0 .sound .laid) _ _ (c .before .before .before .before .before .before .before .before .before .look-up .ensures) (c .before .before .before .before .before .before .before .enum-told .given .1) in
     (simp (m, sym (c .before .before .before .before .before .before .is-builtin .ensures) ∙ c .before .before .before .before .before .if1 .left, ← c .before .before .before .undefined-definition .ensures) (c .before .before .put .ensures .0), c .before .before .put .ensures .1)
 
 same-length-2 : tie.Need-same-length-2
@@ -61,14 +61,14 @@ same-length-2 c = search needs
 
 returns-4 : tie.Need-returns-4
 unfolding inputTypeRecord
-returns-4 c = let m = named _ _ (c .before .before .before .before .before .before .before .before .before .before .before .before .before .before .before .pre .0 .sound .laid) _ _ (c .before .before .before .before .before .before .before .before .before .before .before .find-type .ensures) _ (c .before .before .before .before .before .before .before .before .before .ty .given .1) in
+returns-4 c = let m = named _ _ (c .before .before .before .before .before .before .before .before .before .before .before .before .before .before .before .before .pre .0 .sound .laid) _ _ (c .before .before .before .before .before .before .before .before .before .before .before .look-up .ensures) _ (c .before .before .before .before .before .before .before .before .before .ty .given .1) in
     (simp (m .there, rw (kind-named _ _ _ _ _ m (c .before .before .before .before .before .before .before .type-kind .ensures)) at (sym (c .before .before .before .before .before .before .is-input-kind .ensures) ∙ c .before .before .before .before .before .if2 .left), ← c .before .before .before .input-type .ensures) (c .before .before .put2 .ensures .0), c .before .before .put2 .ensures .1)
 
 pub validate-input-type-spec : {M : Type 1} → statement M
 validate-input-type-spec =
     tie.close
     (tie.spec
-    find-type-requires
+    look-up-requires
     enum-told
     is-builtin-requires
     returns

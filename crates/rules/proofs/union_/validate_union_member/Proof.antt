@@ -9,8 +9,8 @@ use Rattle.rules.specs.Union.{memberRecord}
 use Rattle.rules.proofs.union_.validate_union_member.Statement.{statement}
 use Rattle.rules.proofs.union_.validate_union_member.Tie as tie
 
-find-type-requires : tie.Need-find-type-requires
-find-type-requires c κs = search needs
+look-up-requires : tie.Need-look-up-requires
+look-up-requires c κs = search needs
 
 enum-told : tie.Need-enum-told
 enum-told c = search needs
@@ -25,11 +25,11 @@ enum-known-member : tie.Need-enum-known-member
 enum-known-member c = search needs
 
 type-kind-requires : tie.Need-type-kind-requires
-type-kind-requires c κs = (c .before .before .before .before .before .before .pre .laid, named _ _ (c .before .before .before .before .before .before .pre .laid) _ _ (c .before .before .before .find-type .ensures) _ (c .before .member .given .1) .below)
+type-kind-requires c κs = (c .before .before .before .before .before .before .before .pre .0 .laid, named _ _ (c .before .before .before .before .before .before .before .pre .0 .laid) _ _ (c .before .before .before .look-up .ensures) _ (c .before .member .given .1) .below)
 
 returns : tie.Need-returns
 unfolding memberRecord
-returns c = let m = named _ _ (c .before .before .before .before .before .before .before .before .pre .laid) _ _ (c .before .before .before .before .before .find-type .ensures) _ (c .before .before .before .member .given .1) in
+returns c = let m = named _ _ (c .before .before .before .before .before .before .before .before .before .pre .0 .laid) _ _ (c .before .before .before .before .before .look-up .ensures) _ (c .before .before .before .member .given .1) in
     (simp (m .there, eq-eqb _ _ (sym (kind-named _ _ _ _ _ m (c .before .type-kind .ensures)) ∙ c .if1 .taken)) (emit-none _), omega arith)
 
 union-member-object-type-requires : tie.Need-union-member-object-type-requires
@@ -43,7 +43,7 @@ same-length c = search needs
 
 returns-2 : tie.Need-returns-2
 unfolding memberRecord
-returns-2 c = let m = unnamed _ _ (c .before .before .before .before .before .before .before .before .before .before .pre .laid) _ _ (c .before .before .before .before .before .before .before .find-type .ensures) (c .before .before .before .before .before .enum-told .given .1) in
+returns-2 c = let m = unnamed _ _ (c .before .before .before .before .before .before .before .before .before .before .before .pre .0 .laid) _ _ (c .before .before .before .before .before .before .before .look-up .ensures) (c .before .before .before .before .before .enum-told .given .1) in
     (simp (m, ← c .before .before .before .undefined-definition .ensures) (c .before .before .put .ensures .0), c .before .before .put .ensures .1)
 
 same-length-2 : tie.Need-same-length-2
@@ -51,14 +51,14 @@ same-length-2 c = search needs
 
 returns-3 : tie.Need-returns-3
 unfolding memberRecord
-returns-3 c = let m = named _ _ (c .before .before .before .before .before .before .before .before .before .before .before .before .before .pre .laid) _ _ (c .before .before .before .before .before .before .before .before .before .before .find-type .ensures) _ (c .before .before .before .before .before .before .before .before .member .given .1) in
+returns-3 c = let m = named _ _ (c .before .before .before .before .before .before .before .before .before .before .before .before .before .before .pre .0 .laid) _ _ (c .before .before .before .before .before .before .before .before .before .before .look-up .ensures) _ (c .before .before .before .before .before .before .before .before .member .given .1) in
     (simp (m .there, ne-eqb _ _ (rw (kind-named _ _ _ _ _ m (c .before .before .before .before .before .before .type-kind .ensures)) at (c .before .before .before .before .before .if1 .left)), ← c .before .before .before .union-member-object-type .ensures) (c .before .before .put2 .ensures .0), c .before .before .put2 .ensures .1)
 
 pub validate-union-member-spec : {M : Type 1} → statement M
 validate-union-member-spec =
     tie.close
     (tie.spec
-    find-type-requires
+    look-up-requires
     enum-told
     undefined-definition-requires
     put-requires

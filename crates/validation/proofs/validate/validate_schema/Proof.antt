@@ -36,7 +36,7 @@ same-length c = search needs
 
 returns : tie.Need-returns
 unfolding records
-returns c = (emit-seq _ _ _ _ _ _ _ _ (c .before .before .before .before .before .before .before .validate-schema-definition .ensures .0) (c .before .before .before .before .used .ensures) (rw (type-count _ _ (c .before .before .before .before .before .before .before .before .before .before .before .before .before .pre .0 .sound .laid)) at (c .before .before .validate-types .ensures .0)), omega (arith, c .before .before .before .before .before .before .before .validate-schema-definition .ensures .1, c .before .before .validate-types .ensures .1))
+returns c = (emit-seq _ _ _ _ _ _ _ _ (c .before .before .before .before .before .before .before .validate-schema-definition .ensures .0) (c .before .before .before .before .used .ensures) (rw (type-count _ _ (c .before .before .before .before .before .before .before .before .before .before .before .before .before .before .pre .0 .sound .laid)) at (c .before .before .validate-types .ensures .0)), omega (arith, c .before .before .before .before .before .before .before .validate-schema-definition .ensures .1, c .before .before .validate-types .ensures .1))
 
 pub validate-schema-spec : {M : Type 1} → statement M
 validate-schema-spec =

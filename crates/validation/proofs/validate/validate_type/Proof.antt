@@ -11,7 +11,7 @@ type-name-requires : tie.Need-type-name-requires
 type-name-requires c κs = search needs
 
 validate-type-system-name-requires : tie.Need-validate-type-system-name-requires
-validate-type-system-name-requires c κs = (c .before .before .before .before .before .pre .0, (c .before .before .before .before .before .pre .1, rw (c .before .type-name .ensures) (type-name-below _ _ (c .before .before .before .before .before .pre .0 .sound) _ (c .before .before .before .before .before .pre .1))))
+validate-type-system-name-requires c κs = (c .before .before .before .before .before .before .pre .0, (c .before .before .before .before .before .before .pre .1 .0, rw (c .before .type-name .ensures) (type-name-below _ _ (c .before .before .before .before .before .before .pre .0 .sound) _ (c .before .before .before .before .before .before .pre .1 .0))))
 
 used-requires : tie.Need-used-requires
 used-requires c κs = search needs
@@ -29,7 +29,7 @@ part-validate-kind-end : tie.Need-part-validate-kind-end
 part-validate-kind-end c = search needs
 
 validate-kind-requires : tie.Need-validate-kind-requires
-validate-kind-requires c κs = search needs
+validate-kind-requires c κs = (c .before .before .before .before .before .before .before .before .before .before .before .pre .0, (search needs, c .before .before .before .before .before .before .before .before .before .before .before .pre .1 .1))
 
 add-result : tie.Need-add-result
 add-result c = search needs

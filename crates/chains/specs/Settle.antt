@@ -1,0 +1,26 @@
+-- The walk that settles types: what its functions promise each other.
+use mathlib.Core.Path.{_≡_}
+use mathlib.Core.List.{List}
+use Prim.Native.Nat.{ℕ, _<_}
+use lib.ListN.{length, getD, drop}
+use Rattle.chains.specs.Chains.{Graph}
+use Rattle.chains.specs.Answer.{Marking, Settled}
+
+module _ (g : Graph) where
+  -- the marks are right, none was taken away, a settled type stays settled, and nothing behind the marks has changed
+  pub record Settling (W X : List ℕ) : Type 0 where
+    pub marking : Marking g X
+    pub entered : (v : ℕ) → getD X v 0 ≡ 0 → getD W v 0 ≡ 0
+    pub settled : (v : ℕ) → getD W v 0 ≡ 2 → getD X v 0 ≡ 2
+    pub size : length X ≡ length W
+    pub rest : drop (g .types) X ≡ drop (g .types) W
+
+  -- where field f leads to a type, that one is settled
+  abbrev pub SettledTo : List ℕ → ℕ → Type 0
+  SettledTo X f = g .next f < g .types → getD X (g .next f) 0 ≡ 2
+
+  -- the types are settled that could be, and nothing behind the marks has changed. How many those are changes no answer, and is not said.
+  pub record AllSettled (W X : List ℕ) : Type 0 where
+    pub settled : Settled g X
+    pub size : length X ≡ length W
+    pub rest : drop (g .types) X ≡ drop (g .types) W

@@ -1,8 +1,8 @@
 -- The rows that `records` promises lie in the output, five words each, so a caller reads them with no test of its own.
 use mathlib.Core.Path.{_≡_, sym, ap, _∙_}
 use mathlib.Core.Logic.{⊎-elim}
-use mathlib.Core.List.{List, _++_}
-use Prim.Native.Nat.{ℕ, _*_, _≤_, _<_}
+use mathlib.Core.List.{List}
+use Prim.Native.Nat.{ℕ, _*_, _≤_}
 use native.Mathlib.Omega.{arith}
 use lib.Dec.{ltb, eqb}
 use lib.ListN.{length, drop, length-append}
@@ -11,7 +11,7 @@ use Rattle.names.proofs.BoolLaws.{decide}
 use Rattle.records.specs.Records.{flat}
 use Rattle.records.proofs.Records.{flat-length}
 use Rattle.lhakvuni.specs.declared.answer.Answer.{Answer}
-use Rattle.lhakvuni.specs.declared.answer.Answer.the-variants.{Rows, Refused, Short}
+use Rattle.lhakvuni.specs.declared.answer.Answer.the-variants.{Rows}
 use Rattle.lhakvuni.specs.Answers.{numberOf, valueOf}
 use Rattle.lhakvuni.specs.Promise.{Output}
 use Rattle.lhakvuni.specs.Calls.{recordsNumber, RecordsKept}

@@ -1,5 +1,5 @@
 -- The lengths of a case, as the buffers hold them.
-use Prim.Native.Nat.{ℕ, _≤_}
+use Prim.Native.Nat.{_≤_}
 use Rattle.cases.specs.declared.input.Head.{Head}
 
 pub record Sized (h : Head) : Type 0 where

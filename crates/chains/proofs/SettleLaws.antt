@@ -1,18 +1,18 @@
 -- Types that are settled one after the other: the marks stay right.
 use mathlib.Core.Path.{_≡_, refl, sym, ap, _∙_}
 use mathlib.Core.Logic.{_≢_, ⊎-elim}
-use mathlib.Core.Bool.{Bool, true, false, _&&_}
+use mathlib.Core.Bool.{Bool, true, _&&_}
 use mathlib.Core.List.{List, _∷_, [], _++_}
 use Prim.Native.Nat.{ℕ, zero, suc, _+_, _*_, _≤_, _<_}
 use native.Mathlib.Omega.{arith}
-use lib.ListN.{length, getD, set, drop, replicate, length-set, length-append, length-replicate, getD-replicate, List·getD-append}
+use lib.ListN.{length, getD, set, replicate, length-set, length-append, length-replicate, getD-replicate, List·getD-append}
 use lib.Seq.{getD-set-same, getD-set-other, drop-set-lt}
 use Rattle.names.proofs.BoolLaws.{and-left, and-right}
 use Rattle.chains.specs.Chains.{Graph, Chain, PathTo, PathTo.last, PathTo.step, NoCycle}
 use Rattle.chains.specs.Answer.{Marking, Settled, unentered, Forgotten}
 use Rattle.chains.specs.Settle.{Settling, SettledTo, AllSettled}
 use Rattle.chains.specs.Search.{free}
-use Rattle.chains.proofs.Marks.{same-or-not, below-or-not, free-le, mark-same, unmarked-old}
+use Rattle.chains.proofs.Marks.{same-or-not, below-or-not, free-le, unmarked-old}
 
 -- a chain to s and a chain field of s make a chain to where that field leads
 join-last : {g : Graph} {s v f : ℕ} → Chain g s f v → {t : ℕ} {fs vs : List ℕ} → PathTo g s t fs vs → PathTo g v t (fs ++ f ∷ []) (vs ++ s ∷ [])

@@ -1,13 +1,13 @@
 -- The search from t: where it begins, and what its answer is once the marks of the search are taken away. k is the number of types, as the
 -- code holds it.
-use mathlib.Core.Path.{_≡_, refl, ap, sym, subst, _∙_}
+use mathlib.Core.Path.{_≡_, refl, ap, sym, _∙_}
 use mathlib.Core.Logic.{_⊎_, _≢_, inl, inr, ⊎-elim}
 use mathlib.Core.List.{List, _∷_, [], _++_}
-use Prim.Native.Nat.{ℕ, zero, suc, _+_, _*_, _≤_, _<_}
+use Prim.Native.Nat.{ℕ, suc, _+_, _≤_, _<_}
 use native.Mathlib.Omega.{arith}
 use lib.ListN.{length, getD, set, take, drop, length-set, take-append-drop}
 use lib.Seq.{getD-take, getD-set-same, getD-set-other, drop-set-lt, length-take-le, ext-getD}
-use Rattle.chains.specs.Chains.{Graph, Chain}
+use Rattle.chains.specs.Chains.{Graph}
 use Rattle.chains.specs.Answer.{Shaped, Settled, unentered, Forgotten, Answer}
 use Rattle.chains.specs.Search.{Ready, OnlyMarks, stored, Walked}
 use Rattle.chains.proofs.Marks.{same-or-not, free-most, free-falls, unmarked-old, fail-only}

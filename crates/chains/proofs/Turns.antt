@@ -1,5 +1,5 @@
 -- A turn of the loop over the fields of a type, and what the walk returns, as the search's relations have it.
-use mathlib.Core.Path.{_≡_, refl, ap, subst, sym, _∙_}
+use mathlib.Core.Path.{_≡_, refl, ap, subst, _∙_}
 use mathlib.Core.Logic.{inl, inr}
 use mathlib.Core.List.{List, _∷_, []}
 use Prim.Native.Nat.{ℕ, suc, _+_, _*_, _≤_, _<_}

@@ -5,9 +5,8 @@
 ghost use mathlib.Core.Path.{_≡_};
 ghost use mathlib.Core.Bool.{true};
 ghost use Prim.Native.Nat.{_<_};
-ghost use lib.ListN.{getD};
 ghost use Rattle.rows.specs.Readable.{SoundRows};
-ghost use Rattle.chains.specs.Fields.{chainGraph, chainTarget};
+ghost use Rattle.chains.specs.Fields.{chainGraph};
 ghost use Rattle.chains.specs.Answer.{Helped, Marking, Settled};
 ghost use Rattle.chains.specs.Settle.{Settling, SettledTo, AllSettled};
 use crate::cycle::forget;

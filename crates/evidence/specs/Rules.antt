@@ -1,7 +1,7 @@
 -- Document 01, "Evidence": the seven rules, each a test of one row that computes. T is the number of types of the graph.
 use mathlib.Core.Path.{_≡_}
 use mathlib.Core.List.{List}
-use mathlib.Core.Bool.{Bool, true, false, not, _&&_, _||_, Bool·beq}
+use mathlib.Core.Bool.{Bool, false, not, _&&_, _||_, Bool·beq}
 use Prim.Native.Nat.{ℕ, suc, zero, _+_, _<_}
 use lib.Dec.{leb, ltb, eqb}
 use Rattle.names.specs.Count.{every}

@@ -1,6 +1,6 @@
 // The chain fields of a type, and what rules 5 and 6 ask of one.
 ghost use mathlib.Core.Path.{_≡_};
-ghost use Prim.Native.Nat.{ℕ, _<_};
+ghost use Prim.Native.Nat.{_<_};
 ghost use Rattle.rows.specs.Types.{foundAt};
 ghost use Rattle.order.specs.Order.{Helps};
 ghost use Rattle.chains.specs.Fields.{chainTarget, chainGraph};

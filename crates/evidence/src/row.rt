@@ -1,8 +1,6 @@
 // The six words of a type's evidence.
 ghost use mathlib.Core.Path.{_≡_};
-ghost use mathlib.Core.Bool.{Bool};
-ghost use Prim.Native.Nat.{ℕ, _+_, _*_, _<_};
-ghost use lib.ListN.{getD};
+ghost use Prim.Native.Nat.{_+_, _*_, _<_};
 ghost use Rattle.evidence.specs.Words.{evidenceWords, placeOf, wordOf, number, leader, outField, outDistance, inField, inDepth, marked, leads};
 use rows::numbers::TypeRow;
 use table::layout::wide;

@@ -8,7 +8,7 @@
 // A rule looks at one row, its leader's row and the rows that chain fields lead to: no search, and no work memory. Rule 6 asks for the
 // type that owns a field, and goes through the types for it.
 ghost use mathlib.Core.Path.{_≡_};
-ghost use Prim.Native.Nat.{ℕ, _<_};
+ghost use Prim.Native.Nat.{_<_};
 ghost use Rattle.rows.specs.Readable.{SoundRows};
 ghost use Rattle.chains.specs.Fields.{isInputObject, chainGraph};
 ghost use Rattle.evidence.specs.Rules.{lowest};

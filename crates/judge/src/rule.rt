@@ -2,7 +2,7 @@
 //
 // Where a rule has a type looked up by its name it hands on no words of an order, `&words[..0]`, since the judge is lent none.
 ghost use mathlib.Core.Path.{_≡_};
-ghost use Prim.Native.Nat.{ℕ, _<_, _≤_};
+ghost use Prim.Native.Nat.{_<_};
 ghost use Rattle.chains.specs.Fields.{isInputObject, chainGraph};
 ghost use Rattle.evidence.specs.Rules.{any, comesIn, falls, rule1, rule2, rule3, rule4, rule5, rule6, rule7};
 ghost use Rattle.evidence.specs.Chained.{Chained};

@@ -1,10 +1,9 @@
 -- The calls keep their promises at each of their ends.
-use mathlib.Core.Path.{_≡_, refl, sym, ap, subst, _∙_}
+use mathlib.Core.Path.{_≡_, refl, sym, ap, _∙_}
 use mathlib.Core.Logic.{_≢_, inr, ⊎-elim}
 use mathlib.Core.List.{List, [], _++_}
 use Prim.Native.Nat.{ℕ, _*_, _≤_, _<_}
 use native.Mathlib.Omega.{arith}
-use lib.Dec.{lit<}
 use lib.ListN.{length, drop, replicate}
 use Rattle.table.specs.declared.layout.Layout.{Layout}
 use Rattle.table.specs.declared.check.Verdict.{Verdict}
@@ -12,7 +11,6 @@ use Rattle.table.specs.declared.check.Verdict.the-variants.{WellFormed, Refused
 use Rattle.table.specs.Answers.{numberOf, Proper}
 use Rattle.table.specs.Layout.{layoutOf, typeCount}
 use Rattle.table.specs.WellFormed.{refusal}
-use Rattle.records.specs.declared.Record.{Record}
 use Rattle.records.specs.Records.{flat}
 use Rattle.rules.specs.Validation.{records as listOf}
 use Rattle.chains.specs.Fields.{chainGraph}
@@ -23,8 +21,8 @@ use Rattle.chains.proofs.HelpLaws.{rest-behind}
 use Rattle.chains.proofs.Counts.{cycleCount, count-right, cycleRows, rows-right}
 use Rattle.lhakvuni.specs.declared.answer.Answer.{Answer}
 use Rattle.lhakvuni.specs.declared.answer.Answer.the-variants.{Refused as Refuse}
-use Rattle.lhakvuni.specs.Promise.{Output, Promised}
-use Rattle.lhakvuni.specs.Calls.{workWords, workNumber, rowNumber, recordsNumber, cycleNumber, Listed, RecordsKept, FirstCycleKept}
+use Rattle.lhakvuni.specs.Promise.{Output}
+use Rattle.lhakvuni.specs.Calls.{workWords, rowNumber, recordsNumber, cycleNumber, Listed, RecordsKept, FirstCycleKept}
 use Rattle.lhakvuni.specs.Work.{Prepared, Counted, countsIn, CycleOutput}
 use Rattle.lhakvuni.proofs.WorkLaws.{counts-part}
 use Rattle.lhakvuni.proofs.PromiseLaws.{promise-refused, promise-given}

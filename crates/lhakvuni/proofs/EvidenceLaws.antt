@@ -18,7 +18,6 @@ use Rattle.chains.specs.Chains.{Graph}
 use Rattle.chains.specs.Fields.{chainGraph}
 use Rattle.evidence.specs.Words.{evidenceWords}
 use Rattle.evidence.specs.Verdict.{judgedOf}
-use Rattle.evidence.specs.Canonical.{Canonical}
 use Rattle.evidence.proofs.Exists.{evidence, evidence-canonical}
 use Rattle.evidence.proofs.Unique.{canonical-unique}
 use Rattle.producer.specs.Produced.{Rooms, Made}

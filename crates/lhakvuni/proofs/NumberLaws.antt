@@ -10,9 +10,9 @@ use lib.ListN.{length}
 use borrow.Author.Tests.{lt-ltb, le-ltb, ltb-true, eq-eqb, ne-eqb}
 use Rattle.table.specs.declared.layout.Layout.{Layout}
 use Rattle.table.specs.declared.check.Verdict.{Verdict}
-use Rattle.table.specs.declared.check.Verdict.the-variants.{WellFormed, Refused}
+use Rattle.table.specs.declared.check.Verdict.the-variants.{Refused}
 use Rattle.table.specs.Answers.{numberOf, Proper}
-use Rattle.table.specs.Layout.{Laid, layoutOf, typeCount, headerWords}
+use Rattle.table.specs.Layout.{layoutOf, typeCount, headerWords}
 use Rattle.table.specs.Sound.{Sound}
 use Rattle.table.specs.WellFormed.{refusal}
 use Rattle.rows.specs.Readable.{SoundRows, Readable}

@@ -1,14 +1,14 @@
 -- Each promise allows one answer only: two answers that meet it on the same text, words and lent memory are equal, lent memory included. What
 -- the work table and the output held before is left as it was or overwritten, and plays no part in the rows and the number.
-use mathlib.Core.Path.{_≡_, refl, sym, ap, subst, _∙_}
-use mathlib.Core.List.{List, _++_}
-use Prim.Native.Nat.{ℕ, zero, suc, _*_, _≤_, _<_}
+use mathlib.Core.Path.{_≡_, refl, subst}
+use mathlib.Core.List.{List}
+use Prim.Native.Nat.{ℕ, zero, suc, _*_, _<_}
 use native.Mathlib.Omega.{arith}
 use lib.ListN.{length}
 use Rattle.table.specs.Layout.{typeCount}
 use Rattle.records.specs.declared.Record.{Record}
 use Rattle.records.specs.Records.{each, flat}
-use Rattle.rules.specs.Validation.{kindRecords, typeRecords}
+use Rattle.rules.specs.Validation.{typeRecords}
 use Rattle.rules.specs.Validation.{records as listOf}
 use Rattle.chains.specs.Fields.{chainGraph}
 use Rattle.chains.proofs.Order.{rows-unique, count-unique}

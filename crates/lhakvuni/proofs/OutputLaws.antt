@@ -1,7 +1,7 @@
 -- What the rules and the search leave in the output, as the promises say it.
 use mathlib.Core.Path.{_≡_, refl, sym, ap, subst, _∙_}
 use mathlib.Core.List.{List, _∷_, [], _++_, append-nil}
-use Prim.Native.Nat.{ℕ, zero, suc, _+_, _*_, _-_, _≤_, _<_}
+use Prim.Native.Nat.{ℕ, _+_, _*_, _-_, _≤_, _<_}
 use native.Mathlib.Omega.{arith}
 use lib.ListN.{length, take, drop, length-take, length-drop, drop-of-length-le}
 use lib.Seq.{take-all}
@@ -9,11 +9,10 @@ use Rattle.records.specs.declared.Record.{Record}
 use Rattle.records.specs.Records.{Emitted, flat, rowWords}
 use Rattle.records.proofs.Records.{flat-length}
 use Rattle.chains.specs.Chains.{Graph}
-use Rattle.chains.specs.Answer.{CycleRows, CycleCount}
+use Rattle.chains.specs.Answer.{CycleCount}
 use Rattle.chains.specs.Answer.{Answer as Found}
 use Rattle.chains.proofs.Order.{rows-unique}
-use Rattle.lhakvuni.specs.declared.answer.Answer.{Answer}
-use Rattle.lhakvuni.specs.declared.answer.Answer.the-variants.{Rows, Refused, Short}
+use Rattle.lhakvuni.specs.declared.answer.Answer.the-variants.{Rows, Short}
 use Rattle.lhakvuni.specs.Promise.{Output}
 use Rattle.lhakvuni.specs.Work.{CycleOutput}
 use Rattle.lhakvuni.proofs.PromiseLaws.{output-short, output-done}

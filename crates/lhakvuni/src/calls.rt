@@ -1,9 +1,7 @@
 // The calls. Each makes the checks that concern it, in document 01's order, before it writes anything.
 ghost use mathlib.Core.Path.{_≡_};
-ghost use mathlib.Core.List.{List, _++_};
 ghost use Prim.Native.Nat.{_*_, _≤_, _<_};
-ghost use lib.ListN.{length, getD, drop, replicate};
-ghost use Rattle.table.specs.Layout.{layoutOf, typeCount};
+ghost use lib.ListN.{length};
 ghost use Rattle.table.specs.WellFormed.{refusal};
 ghost use Rattle.table.specs.Answers.{numberOf as verdictNumber, Proper};
 ghost use Rattle.rows.specs.Readable.{SoundRows, Readable};

@@ -1,5 +1,5 @@
 -- Tests over a run of numbers, which antt computes; a test of every row of a section is one of these.
-use mathlib.Core.Bool.{Bool, true, false, _&&_, _||_}
+use mathlib.Core.Bool.{Bool, true, _&&_, _||_}
 use mathlib.Core.List.{List}
 use Prim.Native.Nat.{ℕ, suc, zero, _-_}
 use lib.ListN.{take, drop}

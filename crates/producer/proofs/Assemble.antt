@@ -19,7 +19,7 @@ use Rattle.evidence.proofs.ChainLaws.{chained}
 use Rattle.evidence.proofs.TestLaws.{same-or-not}
 use Rattle.evidence.proofs.Unique.{Agree, agree-back}
 use Rattle.producer.proofs.Reach.{zeros-cleared}
-use Rattle.producer.proofs.Lookups.{helped-order, helped-kept}
+use Rattle.producer.proofs.Lookups.{helped-kept}
 use Rattle.chains.proofs.HelpLaws.{rest-behind}
 use Rattle.producer.proofs.PassLaws.{led-on, led-off, led-kept, numbered-kept, leader-kept, word-as, cleared-join}
 use Rattle.producer.proofs.ChoiceLaws.{word-none, word-some, measured-kept, column-agree, out-as, in-as}
@@ -193,7 +193,7 @@ module _ {w : List ℕ} {l : Layout} {O W Y : List ℕ} (s : SoundRows w l) (r :
         record {
           chained = chained s;
           clear = record { room = omega (arith, c .room); zero = λ i k. there .front i (omega arith) ∙ c .zero i k };
-          help = helped-order w _ (l .types) t (there .ordered);
+          help = record { room = omega (arith, c .room); help = record { ordered = λ _. there .ordered } };
           room = r .out-room;
         }
 
@@ -217,7 +217,7 @@ pub filling-after : {w : List ℕ} {l : Layout} {Right : List ℕ → Type 0} {O
 filling-after f p =
     let e = p .size in
     let r = f .room in
-    record { chained = f .chained; clear = p .cleared .clear; help = helped-kept _ _ _ (p .cleared .rest) (f .help); room = omega arith }
+    record { chained = f .chained; clear = p .cleared .clear; help = helped-kept (f .chained .types) (f .help) _ (p .cleared .size) (p .cleared .rest); room = omega arith }
 
 -- the same after one pass
 pub filling-next : {w : List ℕ} {l : Layout} {c : ℕ} {Is : ℕ → ℕ → Type 0} {O X W Y : List ℕ} → Filling w l W O
@@ -225,7 +225,7 @@ pub filling-next : {w : List ℕ} {l : Layout} {c : ℕ} {Is : ℕ → ℕ → T
 filling-next f p c =
     let e = p .column .size in
     let r = f .room in
-    record { chained = f .chained; clear = c .clear; help = helped-kept _ _ _ (c .rest) (f .help); room = omega arith }
+    record { chained = f .chained; clear = c .clear; help = helped-kept (f .chained .types) (f .help) _ (c .size) (c .rest); room = omega arith }
 
 -- one after the other they are as one
 pub passed-join : {n : ℕ} {A B : List ℕ → Type 0} {O X Y W W′ W″ : List ℕ} → Passed n A O X W W′ → Passed n B X Y W′ W″ → Passed n B O Y W W″

@@ -3,20 +3,17 @@ use mathlib.Core.Path.{_≡_}
 use mathlib.Core.List.{List}
 use Prim.Native.Nat.{ℕ, _*_, _-_}
 use lib.ListN.{length, take, drop}
+use Rattle.table.specs.declared.layout.Layout.{Layout}
 use Rattle.table.specs.Layout.{typeCount}
-use Rattle.order.specs.Order.{Ordered, Helps}
-use Rattle.chains.proofs.HelpLaws.{rest-all}
-use Rattle.producer.specs.Search.{Helped}
-
--- the order helps
-pub helped-order : (w W : List ℕ) (n : ℕ) → n ≡ typeCount w → Ordered w n (drop (2 * n) W) → Helped w W
-helped-order w W n e r = record { ordered = λ h. rw e at r }
+use Rattle.order.specs.Order.{Helps}
+use Rattle.chains.specs.Answer.{Helped}
+use Rattle.chains.proofs.HelpLaws.{rest-all, helped-same}
 
 -- words that are as they were help as they did
-pub helped-kept : (w W X : List ℕ) → drop (2 * typeCount w) X ≡ drop (2 * typeCount w) W → Helped w W → Helped w X
-helped-kept w W X e h = rw e h
+pub helped-kept : {w : List ℕ} {l : Layout} {W : List ℕ} → l .types ≡ typeCount w → Helped w l W → (X : List ℕ) → length X ≡ length W
+    → drop (2 * typeCount w) X ≡ drop (2 * typeCount w) W → Helped w l X
+helped-kept types h X size rest = helped-same h X size (rw (← types) at rest)
 
 -- and so does the part of them that is lent to a lookup
-pub helped-part : (w W : List ℕ) (n : ℕ) → n ≡ typeCount w → Helped w W → Helps w n (take (length W - 2 * n) (drop (2 * n) W))
-helped-part w W n e h =
-    rw (e, rest-all (2 * typeCount w) W) h
+pub helped-part : {w : List ℕ} {l : Layout} {W : List ℕ} → Helped w l W → Helps w (l .types) (take (length W - 2 * l .types) (drop (2 * l .types) W))
+helped-part {l} {W} h = rw (rest-all (2 * l .types) W) (h .help)

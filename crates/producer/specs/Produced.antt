@@ -10,6 +10,7 @@ use lib.Dec.{eqb}
 use Rattle.table.specs.declared.layout.Layout.{Layout}
 use Rattle.table.specs.Layout.{none, typeCount}
 use Rattle.chains.specs.Chains.{Graph}
+use Rattle.chains.specs.Answer.{Helped}
 use Rattle.evidence.specs.declared.row.EvidenceWord.{EvidenceWord}
 use Rattle.evidence.specs.declared.row.EvidenceWord.the-variants.{Number, Leader, OutField, OutDistance, InField, InDepth}
 use Rattle.evidence.specs.Words.{evidenceWords, number, leader, outDistance, inDepth}
@@ -17,7 +18,7 @@ use Rattle.evidence.specs.Rules.{any, goesOut, comesIn}
 use Rattle.evidence.specs.Reaches.{Reaches, OnClosedChain}
 use Rattle.evidence.specs.Canonical.{Count, Least, Way, Other, Mutual, Canonical}
 use Rattle.evidence.specs.Chained.{Chained}
-use Rattle.producer.specs.Search.{Helped, Clear, Cleared}
+use Rattle.producer.specs.Search.{Clear, Cleared}
 
 -- v, for a type that is marked, and else NONE
 pub data Word (ev : List ℕ) (t : ℕ) (P : ℕ → Type 0) : ℕ → Type 0 where
@@ -84,7 +85,7 @@ LevelIs g s u r = Reaches g s u → u ≢ s → Least (λ k. Way g u k s) r
 pub record Filling (w : List ℕ) (l : Layout) (W O : List ℕ) : Type 0 where
   pub chained : Chained w l
   pub clear : Clear (2 * typeCount w) W
-  pub help : Helped w W
+  pub help : Helped w l W
   pub room : evidenceWords * typeCount w ≤ length O
 
 -- the numbers of a table are right

@@ -9,7 +9,7 @@ use Prim.Native.Nat.{ℕ, _+_, _*_, _≤_, _<_}
 use lib.ListN.{length, getD, drop}
 use Rattle.table.specs.declared.layout.Layout.{Layout}
 use Rattle.table.specs.Layout.{typeCount}
-use Rattle.order.specs.Order.{Helps}
+use Rattle.chains.specs.Answer.{Helped}
 use Rattle.chains.specs.Chains.{Graph, Chain}
 use Rattle.evidence.specs.Reaches.{Reaches}
 use Rattle.evidence.specs.Canonical.{Count, Least, Way}
@@ -27,15 +27,11 @@ pub record Listed (types : ℕ) (W : List ℕ) (n : ℕ) : Type 0 where
   pub types-only : (i : ℕ) → i < n → getD W (types + i) 0 < types
   pub marked : (i : ℕ) → i < n → MarkedIn W (getD W (types + i) 0)
 
--- the words behind those of the search help to look types up
-abbrev pub Helped : List ℕ → List ℕ → Type 0
-Helped w W = Helps w (typeCount w) (drop (2 * typeCount w) W)
-
 -- a type may be looked up, and marked at level k, behind the n that are listed
-pub record Entering (w : List ℕ) (k : ℕ) (W : List ℕ) (n : ℕ) : Type 0 where
+pub record Entering (w : List ℕ) (l : Layout) (k : ℕ) (W : List ℕ) (n : ℕ) : Type 0 where
   pub listed : Listed (typeCount w) W n
   pub some : 0 < k
-  pub help : Helped w W
+  pub help : Helped w l W
 
 -- more types may be marked and listed behind those that were, and all else is as it was
 pub record Grown (types : ℕ) (W : List ℕ) (n : ℕ) (X : List ℕ) (m : ℕ) : Type 0 where
@@ -80,7 +76,7 @@ pub record Ready (w : List ℕ) (l : Layout) (t : ℕ) (W : List ℕ) : Type 0 w
   pub chained : Chained w l
   pub low : t < l .types
   pub clear : Clear (2 * typeCount w) W
-  pub help : Helped w W
+  pub help : Helped w l W
 
 -- the first n words were set to 0, and the rest is as it was
 pub record Cleared (n : ℕ) (W X : List ℕ) : Type 0 where

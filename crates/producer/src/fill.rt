@@ -1,6 +1,5 @@
 // Words of every row, one pass after the other.
-ghost use mathlib.Core.Path.{_≡_};
-ghost use Prim.Native.Nat.{ℕ, _*_, _<_};
+ghost use Prim.Native.Nat.{_*_, _<_};
 ghost use Rattle.table.specs.Layout.{typeCount};
 ghost use Rattle.chains.specs.Fields.{chainGraph};
 ghost use Rattle.evidence.specs.Words.{placeOf};

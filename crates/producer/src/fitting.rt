@@ -1,6 +1,5 @@
 // The lowest fields that fit: with which rules 5 and 6 hold.
-ghost use mathlib.Core.Path.{_≡_};
-ghost use Prim.Native.Nat.{ℕ, _<_};
+ghost use Prim.Native.Nat.{_<_};
 ghost use Rattle.order.specs.Order.{Helps};
 ghost use Rattle.chains.specs.Fields.{chainGraph};
 ghost use Rattle.evidence.specs.Chained.{Chained};

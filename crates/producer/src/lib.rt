@@ -12,7 +12,7 @@
 // found in a few steps. All of them are left 0.
 ghost use mathlib.Core.Path.{_≡_};
 ghost use mathlib.Core.List.{_++_};
-ghost use Prim.Native.Nat.{ℕ, _*_};
+ghost use Prim.Native.Nat.{_*_};
 ghost use lib.ListN.{drop, replicate};
 ghost use Rattle.table.specs.Layout.{typeCount};
 ghost use Rattle.rows.specs.Readable.{SoundRows};

@@ -1,6 +1,6 @@
 // The words that searches find: number, leader, distance and depth of a type.
 ghost use mathlib.Core.Path.{_≡_};
-ghost use Prim.Native.Nat.{ℕ, _*_, _<_};
+ghost use Prim.Native.Nat.{_*_, _<_};
 ghost use lib.ListN.{length};
 ghost use Rattle.table.specs.Layout.{typeCount};
 ghost use Rattle.chains.specs.Fields.{chainGraph};

@@ -2,16 +2,15 @@
 //
 // The work words hold for each type its level, the number of fields on the way to it, or 0 where it is not marked; behind these the
 // list of the marked types; and behind that the order of the types, in which the type that a field names is looked up.
-ghost use mathlib.Core.Path.{_≡_};
-ghost use Prim.Native.Nat.{ℕ, _+_, _*_, _<_, _≤_};
-ghost use lib.ListN.{length, getD};
+ghost use Prim.Native.Nat.{_+_, _*_, _<_, _≤_};
+ghost use lib.ListN.{length};
 ghost use Rattle.table.specs.Layout.{mostTypes};
 ghost use Rattle.chains.specs.Fields.{chainsEnd, chainGraph};
 ghost use Rattle.evidence.specs.Chained.{Chained};
 ghost use Rattle.producer.specs.Search.{Entering, Entered, Visited, Ready, Searched, Cleared};
 use chains::cycle::clear;
 use chains::fields::chains_end;
-use chains::fields::target;
+use chains::fields::target_by;
 use rows::numbers::TypeRow;
 use rows::parts::fields_start;
 use table::layout::Layout;
@@ -20,12 +19,11 @@ use table::layout::Layout;
 fn enter(words: &[u32], l: Layout, f: usize, level: u32, n: usize, work: &mut [u32]) -> usize
     requires { ⌜ Chained (now words) l ⌝ }
     requires { ⌜ f < l .fields ⌝ }
-    requires { ⌜ Entering (now words) level (now work) n ⌝ }
+    requires { ⌜ Entering (now words) l level (now work) n ⌝ }
     ensures { λ m. ⌜ Entered (chainGraph (now (words .entry))) f level (now (work .entry)) n (now (work .exit)) m ⌝ }
 {
     let types = l.types;
-    let order = 2 * types;
-    let u = target(words, l, &work[order..], f);
+    let u = target_by(words, l, work, f);
     if types <= u {
         return n;
     }
@@ -41,7 +39,7 @@ fn enter(words: &[u32], l: Layout, f: usize, level: u32, n: usize, work: &mut [u
 fn visit(words: &[u32], l: Layout, s: TypeRow, level: u32, listed: usize, work: &mut [u32]) -> usize
     requires { ⌜ Chained (now words) l ⌝ }
     requires { ⌜ s .0 < l .types ⌝ }
-    requires { ⌜ Entering (now words) level (now work) listed ⌝ }
+    requires { ⌜ Entering (now words) l level (now work) listed ⌝ }
     ensures { λ m. ⌜ Visited (chainGraph (now (words .entry))) (s .0) (chainsEnd (now (words .entry)) (s .0)) level (now (work .entry)) listed (now (work .exit)) m ⌝ }
 {
     let row = s.0; // what the loop does is said of this number

@@ -1,5 +1,5 @@
 // Enum: 5 per value; 16.
-ghost use Prim.Native.Nat.{_+_, _*_, _≤_, _<_};
+ghost use Prim.Native.Nat.{_+_, _≤_, _<_};
 ghost use lib.ListN.{length};
 ghost use Rattle.records.specs.Records.{Emitted, each};
 ghost use Rattle.rows.specs.Readable.{Readable, NamePart};

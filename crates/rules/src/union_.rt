@@ -1,5 +1,5 @@
 // Union: per member 3 or 14; 15.
-ghost use Prim.Native.Nat.{_+_, _*_, _≤_, _<_};
+ghost use Prim.Native.Nat.{_+_, _≤_, _<_};
 ghost use lib.ListN.{length, getD};
 ghost use Rattle.records.specs.Records.{Emitted, each};
 ghost use Rattle.rows.specs.Readable.{SoundRows, NamePart};

@@ -1,14 +1,14 @@
 -- What a layout tells: each column lies within the table; and when the header, the limits and the length are right, all of it.
 use mathlib.Core.Path.{_≡_, refl, sym, _∙_}
-use mathlib.Core.Bool.{Bool, true, _&&_}
+use mathlib.Core.Bool.{true, _&&_}
 use mathlib.Core.List.{List}
-use Prim.Native.Nat.{ℕ, _+_, _*_, _≤_, _<_}
+use Prim.Native.Nat.{ℕ, _+_, _≤_, _<_}
 use native.Mathlib.Omega.{arith}
 use lib.ListN.{length}
 use lib.Dec.{leb, eqb}
 use borrow.Author.Tests.{leb-true, eqb-true}
 use Rattle.table.specs.declared.layout.Layout.{Layout}
-use Rattle.table.specs.Layout.{rootWords, typeWords, fieldWords, argumentWords, mostNames, mostTypes, mostEdges, mostFields, mostArguments, mostMembers, mostValues, mostText, tableLength, layoutOf, Inside, Laid, InRange, nameStarts, nameLengths, typeColumn, edgeNames, fieldColumn, argumentColumn, memberNames, valueNames, roots, nameCount, typeCount, edgeCount, fieldCount, argumentCount, memberCount, valueCount, typesAt, edgesAt, fieldsAt, argumentsAt, membersAt, valuesAt, rootsAt}
+use Rattle.table.specs.Layout.{rootWords, typeWords, fieldWords, argumentWords, mostNames, mostTypes, mostEdges, mostFields, mostArguments, mostMembers, mostValues, mostText, tableLength, layoutOf, Inside, Laid, InRange, nameStarts, nameLengths, typeColumn, edgeNames, fieldColumn, argumentColumn, memberNames, valueNames, roots, typesAt, edgesAt, fieldsAt, argumentsAt, membersAt, valuesAt, rootsAt}
 use Rattle.table.specs.WellFormed.{inLimits, rightLength}
 use Rattle.names.proofs.BoolLaws.{and-left, and-right}
 

@@ -2,7 +2,7 @@
 -- layout l.
 use mathlib.Core.Bool.{Bool, _&&_, _||_, not, true, false}
 use mathlib.Core.List.{List}
-use Prim.Native.Nat.{ℕ, _+_, _*_, _-_}
+use Prim.Native.Nat.{ℕ, _+_, _-_}
 use lib.ListN.{length}
 use lib.Dec.{leb, ltb, eqb}
 use Rattle.table.specs.declared.layout.Layout.{Layout}
@@ -11,7 +11,7 @@ use Rattle.names.specs.Count.{every, part}
 use Rattle.names.specs.Names.{isName, before}
 use Rattle.names.specs.Wraps.{goodWrap}
 use Rattle.table.specs.Kinds.{kinds, ownsEdges, ownsFields, ownsMembers, ownsValues, takesArguments, takesDefault}
-use Rattle.table.specs.Layout.{headerWords, rootWords, mostNames, mostTypes, mostEdges, mostFields, mostArguments, mostMembers, mostValues, mostText, tableLength, none, layoutOf, wordAt, startAt, empty, nameStarts, nameLengths, typeNames, typeKinds, typeFlags, edgesEnds, fieldsEnds, membersEnds, valuesEnds, edgeNames, fieldNames, fieldTypes, fieldWraps, argumentsEnds, fieldDefaults, argumentNames, argumentTypes, argumentWraps, argumentDefaults, memberNames, valueNames, roots}
+use Rattle.table.specs.Layout.{headerWords, mostNames, mostTypes, mostEdges, mostFields, mostArguments, mostMembers, mostValues, mostText, tableLength, none, layoutOf, wordAt, startAt, empty, nameStarts, nameLengths, typeNames, typeKinds, typeFlags, edgesEnds, fieldsEnds, membersEnds, valuesEnds, edgeNames, fieldNames, fieldTypes, fieldWraps, argumentsEnds, fieldDefaults, argumentNames, argumentTypes, argumentWraps, argumentDefaults, memberNames, valueNames, roots}
 
 -- 1: the header is there
 abbrev pub hasHeader : List ℕ → Bool

@@ -1,7 +1,6 @@
 -- The padding has three bytes at most.
 use Prim.Native.Nat.{_-_}
 use Prim.Native.Nat.{_≤_}
-use lib.ListN.{length}
 use borrow.Author.Needs.{needs}
 use Rattle.cases.proofs.input.read_text.Statement.{statement}
 use Rattle.cases.proofs.input.read_text.Tie as tie

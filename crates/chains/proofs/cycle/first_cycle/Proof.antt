@@ -1,15 +1,14 @@
 -- `first_cycle`: a marked type has no cycle. The search from another starts with t marked too, and what it finds is the answer, by the laws
 -- of proofs/Top.
 use borrow.Author.Needs.{needs}
-use mathlib.Core.Path.{_≡_, refl, ap, _∙_}
-use Prim.Native.Nat.{ℕ, _<_}
+use mathlib.Core.Path.{_≡_, refl, _∙_}
 use native.Mathlib.Omega.{arith}
 use lib.ListN.{length, getD, length-set}
 use Rattle.table.specs.Layout.{typeCount}
 use Rattle.rows.proofs.PartLaws.{type-count}
 use Rattle.chains.proofs.HelpLaws.{helped-mark}
 use Rattle.chains.proofs.Shape.{shaped}
-use Rattle.chains.proofs.Top.{settled-answer, top-ready, top-most, top-only, top-same, top-answer}
+use Rattle.chains.proofs.Top.{settled-answer, top-ready, top-most, top-same, top-answer}
 use Rattle.chains.proofs.cycle.first_cycle.Statement.{statement}
 use Rattle.chains.proofs.cycle.first_cycle.Tie as tie
 

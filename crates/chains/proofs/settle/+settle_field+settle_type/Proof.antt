@@ -4,17 +4,14 @@ use borrow.Author.Needs.{needs}
 use borrow.Author.Tests.{eqb-true}
 use borrow.Fn.Kinds.{In}
 use borrow.Fn.PlainCycle.{Measures, is, falls, and}
-use mathlib.Core.Path.{_≡_, refl, sym, ap, _∙_}
+use mathlib.Core.Path.{_≡_, sym}
 use mathlib.Core.Bool.{true}
 use mathlib.Core.Logic.{⊎-elim}
-use Prim.Native.Nat.{ℕ, _<_, _≤_, _+_, _*_, _-_}
+use Prim.Native.Nat.{ℕ, _<_, _+_, _*_, _-_}
 use native.Mathlib.Omega.{arith}
-use lib.ListN.{length, getD, set, length-set}
 use Rattle.table.specs.Layout.{typeCount}
 use Rattle.rows.proofs.PartLaws.{type-count}
-use Rattle.chains.specs.Chains.{Graph}
 use Rattle.chains.specs.Fields.{chainGraph}
-use Rattle.chains.specs.Answer.{Helped}
 use Rattle.chains.specs.Search.{free}
 use Rattle.chains.specs.Settle.{Settling}
 use Rattle.chains.proofs.Marks.{free-falls}

@@ -1,7 +1,7 @@
 -- `settle`: each turn may settle types, and nothing that was settled is lost.
 use borrow.Author.Needs.{needs}
 use native.Mathlib.Omega.{arith}
-use mathlib.Core.Path.{_≡_, refl, _∙_, sym}
+use mathlib.Core.Path.{_≡_, _∙_, sym}
 use mathlib.Core.Logic.{⊎-elim}
 use Prim.Native.Nat.{_<_, _-_}
 use Rattle.table.specs.Layout.{typeCount}

@@ -1,8 +1,6 @@
 -- The row is past the types, an input object's, or another type's.
 use borrow.Author.Needs.{needs}
-use native.Mathlib.Omega.{arith}
 use mathlib.Core.Path.{sym, _∙_}
-use borrow.Author.Tests.{not-true, not-false}
 use Rattle.lhakvuni.proofs.NumberLaws.{row-past, row-input, row-other}
 use Rattle.lhakvuni.proofs.calls.check_row.Statement.{statement}
 use Rattle.lhakvuni.proofs.calls.check_row.Tie as tie

@@ -3,7 +3,6 @@ use borrow.Author.Needs.{needs}
 use native.Mathlib.Omega.{arith}
 use mathlib.Core.Path.{_≡_, refl, sym, _∙_}
 use Prim.Native.Nat.{_-_, _≤_}
-use Rattle.table.specs.Layout.{typeCount}
 use Rattle.rows.proofs.PartLaws.{type-count}
 use Rattle.chains.specs.Fields.{chainGraph}
 use Rattle.chains.proofs.HelpLaws.{helped-same, helped-rest}

@@ -31,7 +31,7 @@ word-for-requires c κs =
     let pre = c .before .before .before .before .before .before .before .before .pre in
     let loop = c .before .before .before .before .loop in
     let args = c .before .before .before .before .before .before .before .before .args in
-    (record { chained = pre .0 .chained; low = c .before .before .if1 .taken; clear = loop .inv .2 .clear; help = helped-kept _ _ _ (loop .inv .2 .rest) (pre .0 .help) }, known-kept (chainGraph (args .words .now)) (args .k) (loop .inv .1 .column) (pre .1))
+    (record { chained = pre .0 .chained; low = c .before .before .if1 .taken; clear = loop .inv .2 .clear; help = helped-kept (pre .0 .chained .types) (pre .0 .help) _ (loop .inv .2 .size) (loop .inv .2 .rest) }, known-kept (chainGraph (args .words .now)) (args .k) (loop .inv .1 .column) (pre .1))
 
 mul-out : tie.Need-mul-out Inv-loop μ-loop
 mul-out c =

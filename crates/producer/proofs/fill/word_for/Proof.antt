@@ -23,12 +23,12 @@ depth-of-requires c κs =
 out-field-of-requires : tie.Need-out-field-of-requires
 out-field-of-requires c κs =
     let pre = c .before .before .before .before .before .before .before .before .pre in
-    (pre .0 .chained, (pre .0 .low, (rw (c .before .before .enum-told5 .given .1) at (pre .1), helped-part _ _ _ (pre .0 .chained .types) (pre .0 .help))))
+    (pre .0 .chained, (pre .0 .low, (rw (c .before .before .enum-told5 .given .1) at (pre .1), helped-part (pre .0 .help))))
 
 in-field-of-requires : tie.Need-in-field-of-requires
 in-field-of-requires c κs =
     let pre = c .before .before .before .before .before .before .before .before .pre in
-    (pre .0 .chained, (pre .0 .low, (rw (c .before .before .enum-told6 .given .1) at (pre .1), helped-part _ _ _ (pre .0 .chained .types) (pre .0 .help))))
+    (pre .0 .chained, (pre .0 .low, (rw (c .before .before .enum-told6 .given .1) at (pre .1), helped-part (pre .0 .help))))
 
 returns : tie.Need-returns
 returns c =

@@ -63,7 +63,7 @@ visit-requires-2 c κs =
     let pre = c .before .before .before .before .before .before .before .before .before .before .before .pre in
     let loop = c .before .before .before .before .loop in
     let test = c .before .before .before .loop-test in
-    (pre .chained, (let b = loop .inv .2 .listed .types-only (loop .head) (test .taken) in rw (pre .chained .types) (omega arith), record { listed = loop .inv .2 .listed; some = omega arith; help = helped-kept _ _ _ (loop .inv .2 .rest ∙ c .before .before .before .before .before .before .before .visit .ensures .grown .rest) (pre .help) }))
+    (pre .chained, (let b = loop .inv .2 .listed .types-only (loop .head) (test .taken) in rw (pre .chained .types) (omega arith), record { listed = loop .inv .2 .listed; some = omega arith; help = helped-kept (pre .chained .types) (pre .help) _ (loop .inv .2 .size ∙ c .before .before .before .before .before .before .before .visit .ensures .grown .size) (loop .inv .2 .rest ∙ c .before .before .before .before .before .before .before .visit .ensures .grown .rest) }))
 
 loop-again : tie.Need-loop-again Inv-loop μ-loop
 loop-again c =

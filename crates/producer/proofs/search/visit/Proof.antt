@@ -27,7 +27,7 @@ enter-requires : tie.Need-enter-requires Inv-loop μ-loop
 enter-requires c κs =
     let pre = c .before .before .before .before .before .before .before .pre in
     let args = c .before .before .before .before .before .before .before .args in
-    (pre .0, (omega (arith, pre .0 .inside (args .s .0) (pre .1 .0)), record { listed = c .before .before .loop .inv .1 .grown .listed; some = pre .1 .1 .some; help = helped-kept _ _ _ (c .before .before .loop .inv .1 .grown .rest) (pre .1 .1 .help) }))
+    (pre .0, (omega (arith, pre .0 .inside (args .s .0) (pre .1 .0)), record { listed = c .before .before .loop .inv .1 .grown .listed; some = pre .1 .1 .some; help = helped-kept (pre .0 .types) (pre .1 .1 .help) _ (c .before .before .loop .inv .1 .grown .size) (c .before .before .loop .inv .1 .grown .rest) }))
 
 loop-again : tie.Need-loop-again Inv-loop μ-loop
 loop-again c =

@@ -13,9 +13,6 @@ use Rattle.rows.specs.Search.{find}
 use Rattle.rows.specs.Types.{typeNamed}
 use Rattle.rows.proofs.types.find_type.Statement.{statement}
 use Rattle.rows.proofs.types.find_type.Tie as tie
-use Rattle.rows.proofs.types.find_type.Reads as reads
-use Rattle.rows.proofs.types.find_type.Lts as lts
-use Rattle.rows.proofs.types.type_name.Reads as type-name-reads
 
 abbrev Inv-loop : tie.InvT-loop
 Inv-loop words l name t₀ t = (t ≤ l .types) × (typeNamed words (name .0) ≡ find (λ u. eqb (typeName words u) (name .0)) t (l .types - t))

@@ -1,5 +1,6 @@
-/* Times the library's calls on generated tables: every count near its limit, and input objects of four shapes. Each family
- * comes in three sizes, n, 2n and 4n, the last at document 01's limits, so that growth shows. It prints a line of Markdown for each. */
+/* Times the library's calls on generated tables: every count near its limit, and input objects of five shapes. Each family
+ * comes in three sizes, n, 2n and 4n, the last at document 01's limits, so that growth shows; all are timed in five rounds, and the least time
+ * counts. It prints a line of Markdown for each call. */
 #include <stdint.h>
 #include <stdio.h>
 #include <stdlib.h>
@@ -87,21 +88,22 @@ static size_t limits(uint32_t size) {
     return at;
 }
 
-/* Input objects, of four shapes: eight chain fields each to the types behind, none on a closed chain; the same, but that the last type leads
+/* Input objects, of these shapes: eight chain fields each to the types behind, none on a closed chain; the same, but that the last type leads
  * to itself, so that all lead to a closed chain; one field each to the next, and the last to the first; eight fields each to scattered
- * types, which nearly all lead to each other. */
-enum shape { LIMITS, BEHIND, CLOSED, RING, SCATTERED };
+ * types, which nearly all lead to each other. Type names are the first of all names, or, with SPREAD, every fourth. */
+enum shape { LIMITS, BEHIND, CLOSED, SPREAD, RING, SCATTERED };
 static size_t inputs(uint32_t t, enum shape shape) {
     uint32_t each = shape == RING ? 1 : 8, seed = 1;
-    counts c = {t + 8, t, 0, each * t, 0, 0, 0};
+    uint32_t step = shape == SPREAD ? 4 : 1, fields = shape == SPREAD ? 0 : t; /* from name to name of types, and the first name of a field */
+    counts c = {shape == SPREAD ? 4 * t : t + 8, t, 0, each * t, 0, 0, 0};
     size_t at = header(c);
     memset(ends, 0, sizeof ends);
-    for (uint32_t i = 0; i < t; i++) at = type_row(at, i, 5, 0, each, 0, 0);
+    for (uint32_t i = 0; i < t; i++) at = type_row(at, step * i + step - 1, 5, 0, each, 0, 0);
     for (uint32_t i = 0; i < t; i++)
         for (uint32_t j = 0; j < each; j++) {
             seed = seed * 1664525 + 1013904223;
             uint32_t to = shape == RING ? (i + 1) % t : shape == SCATTERED ? (seed >> 8) % t : i + 1 + j < t ? i + 1 + j : t - 1;
-            uint32_t row[5] = {t + j, to, shape == BEHIND && to == i ? 0 : 16, 0, 0};
+            uint32_t row[5] = {fields + step * j, step * to + step - 1, shape == BEHIND && to == i ? 0 : 16, 0, 0};
             memcpy(words + at, row, sizeof row);
             at += 5;
         }
@@ -143,33 +145,43 @@ static double best(call f, size_t bytes, size_t n, uint64_t *value) {
 static const char *calls[] = {"check_table", "records", "first_cycle", "make_evidence", "check_evidence"};
 static const call functions[] = {table, records, cycle, make, judge};
 
-static void family(const char *name, enum shape shape, const uint32_t sizes[3]) {
-    double times[5][3];
-    size_t lengths[3];
-    uint64_t values[5];
+typedef struct { const char *name; enum shape shape; uint32_t sizes[3]; double times[5][3]; size_t lengths[3]; uint64_t values[5]; } family;
+
+/* Keeps the least times of this round and those before. */
+static void measure(family *f, int round) {
     for (int s = 0; s < 3; s++) {
-        size_t n = shape == LIMITS ? limits(sizes[s]) : inputs(sizes[s], shape);
-        lengths[s] = n;
-        cycle_row = shape == LIMITS ? words[1] - 1 : 0;
+        size_t n = f->shape == LIMITS ? limits(f->sizes[s]) : inputs(f->sizes[s], f->shape);
+        f->lengths[s] = n;
+        cycle_row = f->shape == LIMITS ? words[1] - 1 : 0;
         for (int k = 0; k < 5; k++) {
-            times[k][s] = best(functions[k], 4 * (size_t)words[0], n, &values[k]);
-            fprintf(stderr, "%s %zu words, %s: %.3f ms\n", name, n, calls[k], times[k][s] * 1e3);
+            double t = best(functions[k], 4 * (size_t)words[0], n, &f->values[k]);
+            if (round == 0 || t < f->times[k][s]) f->times[k][s] = t;
         }
     }
-    for (int k = 0; k < 5; k++)
-        printf("| %s | `%s` | %.3f | %.3f | %.3f | %.1f | %.1f | %.1f | %llu |\n", name, calls[k], times[k][0] * 1e3, times[k][1] * 1e3,
-               times[k][2] * 1e3, times[k][2] * 1e9 / lengths[2], times[k][1] / times[k][0], times[k][2] / times[k][1],
-               (unsigned long long)values[k]);
+}
+
+static void show(const family *f) {
+    for (int k = 0; k < 5; k++) {
+        const double *t = f->times[k];
+        printf("| %s | `%s` | %.3f | %.3f | %.3f | %.1f | %.1f | %.1f | %llu |\n", f->name, calls[k], t[0] * 1e3, t[1] * 1e3, t[2] * 1e3,
+               t[2] * 1e9 / f->lengths[2], t[1] / t[0], t[2] / t[1], (unsigned long long)f->values[k]);
+    }
 }
 
 int main(void) {
+    static family families[] = {
+        {.name = "every count near its limit", .shape = LIMITS, .sizes = {1, 2, 4}},
+        {.name = "input objects, eight chain fields each", .shape = BEHIND, .sizes = {256, 512, 1024}},
+        {.name = "the same, all leading to a closed chain", .shape = CLOSED, .sizes = {256, 512, 1024}},
+        {.name = "the same, every fourth name a type's", .shape = SPREAD, .sizes = {256, 512, 1024}},
+        {.name = "a ring of input objects", .shape = RING, .sizes = {256, 512, 1024}},
+        {.name = "eight chain fields each to scattered types", .shape = SCATTERED, .sizes = {256, 512, 1024}},
+    };
+    const int count = sizeof families / sizeof *families;
     out = malloc(MOST_OUT * sizeof *out);
     if (!out) return 1;
-    const uint32_t limit_sizes[3] = {1, 2, 4}, input_sizes[3] = {256, 512, 1024};
-    family("every count near its limit", LIMITS, limit_sizes);
-    family("input objects, eight chain fields each", BEHIND, input_sizes);
-    family("the same, all leading to a closed chain", CLOSED, input_sizes);
-    family("a ring of input objects", RING, input_sizes);
-    family("eight chain fields each to scattered types", SCATTERED, input_sizes);
+    for (int round = 0; round < 5; round++)
+        for (int i = 0; i < count; i++) measure(&families[i], round);
+    for (int i = 0; i < count; i++) show(&families[i]);
     return 0;
 }

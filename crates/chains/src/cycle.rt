@@ -38,7 +38,7 @@ pub fn forget(work: &mut [u32], n: usize)
 }
 
 // The number of fields of the first cycle of type t, whose rows are written to out in order, as many as there is room for; 0 where
-// t has no cycle. The marks of settled types are not searched behind, and the work words are left as they were.
+// t has no cycle. A settled type has none, and is not entered. The work words are left as they were.
 pub fn first_cycle(words: &[u32], l: Layout, t: TypeRow, work: &mut [u32], out: &mut [u32]) -> usize
     requires { ⌜ SoundRows (now words) l ⌝ }
     requires { ⌜ t .0 < l .types ⌝ }

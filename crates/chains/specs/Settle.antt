@@ -19,7 +19,7 @@ module _ (g : Graph) where
   abbrev pub SettledTo : List ℕ → ℕ → Type 0
   SettledTo X f = g .next f < g .types → getD X (g .next f) 0 ≡ 2
 
-  -- the types are settled that could be, and nothing behind the marks has changed. How many those are changes no answer, and is not said.
+  -- what is marked is settled, and nothing behind the marks has changed. How many types are is not said: it changes no answer.
   pub record AllSettled (W X : List ℕ) : Type 0 where
     pub settled : Settled g X
     pub size : length X ≡ length W

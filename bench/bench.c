@@ -8,43 +8,44 @@
 #include <time.h>
 
 #include "lhakvuni.h"
+#include "../examples/c/table.h"
 
-enum { MOST_WORDS = 140000, MOST_OUT = 40000000, MOST_WORK = 6144 };
+enum {
+    MOST_WORDS = HEADER_WORDS + NAME_WORDS * LV_MOST_NAMES + TYPE_WORDS * LV_MOST_TYPES + EDGE_WORDS * LV_MOST_EDGES + FIELD_WORDS * LV_MOST_FIELDS
+                 + ARGUMENT_WORDS * LV_MOST_ARGUMENTS + MEMBER_WORDS * LV_MOST_MEMBERS + VALUE_WORDS * LV_MOST_VALUES + ROOT_WORDS,
+    MOST_OUT = 40000000,
+    MOST_WORK = LV_MOST_EVIDENCE,
+    NULLABLE = 0, /* the wraps of ID and ID! */
+    NON_NULL = 16
+};
 
-static uint8_t text[65536];
+static uint8_t text[LV_MOST_TEXT];
 static uint32_t words[MOST_WORDS];
 static uint32_t work[MOST_WORK];
 static uint32_t *out;
 static uint32_t evidence[MOST_WORK];
 
-typedef struct { uint32_t names, types, edges, fields, arguments, members, values; } counts;
-
-/* Four letters a name, so that names rise with their numbers. */
-static void write_names(uint32_t n) {
-    for (uint32_t i = 0; i < n; i++) {
+/* The counts, and four letters a name, so that names rise with their numbers. */
+static uint32_t *write_names(counts c) {
+    uint32_t *at = header(words, c);
+    for (uint32_t i = 0; i < c.names; i++) {
         text[4 * i] = 'N';
         text[4 * i + 1] = 'A' + i / 256 % 16;
         text[4 * i + 2] = 'A' + i / 16 % 16;
         text[4 * i + 3] = 'A' + i % 16;
-        words[7 + 2 * i] = 4 * i;
-        words[7 + 2 * i + 1] = 4;
+        at = name_row(at, 4 * i, 4);
     }
+    return at;
 }
 
-static size_t header(counts c) {
-    uint32_t h[7] = {c.names, c.types, c.edges, c.fields, c.arguments, c.members, c.values};
-    memcpy(words, h, sizeof h);
-    write_names(c.names);
-    return 7 + 2 * (size_t)c.names;
-}
-
-/* A row of the type section; the ends are those of the rows before it plus its own. */
-static uint32_t ends[4];
-static size_t type_row(size_t at, uint32_t name, uint32_t kind, uint32_t e, uint32_t f, uint32_t m, uint32_t v) {
-    ends[0] += e; ends[1] += f; ends[2] += m; ends[3] += v;
-    uint32_t row[7] = {name, kind, 0, ends[0], ends[1], ends[2], ends[3]};
-    memcpy(words + at, row, sizeof row);
-    return at + 7;
+/* A type that owns so many rows: the ends are those of the types before it plus its own. */
+static ends end;
+static uint32_t *owner(uint32_t *at, uint32_t name, enum lv_kind kind, ends own) {
+    end.edges += own.edges;
+    end.fields += own.fields;
+    end.members += own.members;
+    end.values += own.values;
+    return type_row(at, name, kind, 0, end);
 }
 
 /* Every count at size / 4 of its limit: a quarter each of interfaces, objects that implement them, and of the rest unions, enums and
@@ -52,40 +53,34 @@ static size_t type_row(size_t at, uint32_t name, uint32_t kind, uint32_t e, uint
 static size_t limits(uint32_t size) {
     uint32_t t = 256 * size, q = t / 4;
     counts c = {1024 * size, t, 1024 * size, 2048 * size, 4096 * size, 1024 * size, 1024 * size};
-    size_t at = header(c);
+    uint32_t *at = write_names(c);
     uint32_t fields = c.fields / (3 * q), left = c.fields - fields * 3 * q;
-    memset(ends, 0, sizeof ends);
+    end = (ends){0};
     for (uint32_t i = 0; i < t; i++) {
         uint32_t k = i / q;
         uint32_t f = fields + (i == t - 1 ? left : 0);
-        if (k == 0) at = type_row(at, i, 2, 0, f, 0, 0);
-        else if (k == 1) at = type_row(at, i, 1, c.edges / q, f, 0, 0);
-        else if (k == 2) at = i % 2 ? type_row(at, i, 3, 0, 0, c.members / (q / 2), 0) : type_row(at, i, 4, 0, 0, 0, c.values / (q / 2));
-        else at = type_row(at, i, 5, 0, f, 0, 0);
+        if (k == 0) at = owner(at, i, LV_INTERFACE, (ends){.fields = f});
+        else if (k == 1) at = owner(at, i, LV_OBJECT, (ends){.edges = c.edges / q, .fields = f});
+        else if (k == 2) at = i % 2 ? owner(at, i, LV_UNION, (ends){.members = c.members / (q / 2)}) : owner(at, i, LV_ENUM, (ends){.values = c.values / (q / 2)});
+        else at = owner(at, i, LV_INPUT_OBJECT, (ends){.fields = f});
     }
     for (uint32_t o = 0; o < q; o++)
-        for (uint32_t e = 0; e < c.edges / q; e++) words[at++] = (o + e) % q;
-    uint32_t owned = 0, arguments = c.arguments / (2 * q * fields), f = 0;
+        for (uint32_t e = 0; e < c.edges / q; e++) at = edge_row(at, (o + e) % q);
+    uint32_t owned = 0, arguments = c.arguments / (2 * q * fields);
     for (uint32_t i = 0; i < t; i++) {
         uint32_t k = i / q;
         if (k == 2) continue;
-        for (uint32_t j = 0; j < fields + (i == t - 1 ? left : 0); j++, f++) {
+        for (uint32_t j = 0; j < fields + (i == t - 1 ? left : 0); j++) {
             uint32_t last = k == 1 && i == 2 * q - 1 && j == fields - 1;
             owned += k < 2 ? (last ? c.arguments - owned : arguments) : 0;
-            uint32_t row[5] = {t + j, k == 3 ? 3 * q + (i + 1 + j) % q : q + (i + j) % q, k == 3 ? 0 : 16, owned, 0};
-            memcpy(words + at, row, sizeof row);
-            at += 5;
+            uint32_t type = k == 3 ? 3 * q + (i + 1 + j) % q : q + (i + j) % q;
+            at = field_row(at, t + j, type, k == 3 ? NULLABLE : NON_NULL, owned, 0);
         }
     }
-    for (uint32_t a = 0; a < c.arguments; a++) {
-        uint32_t row[4] = {t + a % 64, 3 * q + a % q, 0, 0};
-        memcpy(words + at, row, sizeof row);
-        at += 4;
-    }
-    for (uint32_t m = 0; m < c.members; m++) words[at++] = q + m % q;
-    for (uint32_t v = 0; v < c.values; v++) words[at++] = t + v % 512;
-    words[at++] = q; words[at++] = LV_NONE; words[at++] = LV_NONE;
-    return at;
+    for (uint32_t a = 0; a < c.arguments; a++) at = argument_row(at, t + a % 64, 3 * q + a % q, NULLABLE, 0);
+    for (uint32_t m = 0; m < c.members; m++) at = member_row(at, q + m % q);
+    for (uint32_t v = 0; v < c.values; v++) at = value_row(at, t + v % 512);
+    return roots_row(at, q, LV_NONE, LV_NONE) - words;
 }
 
 /* Input objects, of these shapes: eight chain fields each to the types behind, none on a closed chain; the same, but that the last type leads
@@ -96,19 +91,16 @@ static size_t inputs(uint32_t t, enum shape shape) {
     uint32_t each = shape == RING ? 1 : 8, seed = 1;
     uint32_t step = shape == SPREAD ? 4 : 1, fields = shape == SPREAD ? 0 : t; /* from name to name of types, and the first name of a field */
     counts c = {shape == SPREAD ? 4 * t : t + 8, t, 0, each * t, 0, 0, 0};
-    size_t at = header(c);
-    memset(ends, 0, sizeof ends);
-    for (uint32_t i = 0; i < t; i++) at = type_row(at, step * i + step - 1, 5, 0, each, 0, 0);
+    uint32_t *at = write_names(c);
+    end = (ends){0};
+    for (uint32_t i = 0; i < t; i++) at = owner(at, step * i + step - 1, LV_INPUT_OBJECT, (ends){.fields = each});
     for (uint32_t i = 0; i < t; i++)
         for (uint32_t j = 0; j < each; j++) {
             seed = seed * 1664525 + 1013904223;
             uint32_t to = shape == RING ? (i + 1) % t : shape == SCATTERED ? (seed >> 8) % t : i + 1 + j < t ? i + 1 + j : t - 1;
-            uint32_t row[5] = {fields + step * j, step * to + step - 1, shape == BEHIND && to == i ? 0 : 16, 0, 0};
-            memcpy(words + at, row, sizeof row);
-            at += 5;
+            at = field_row(at, fields + step * j, step * to + step - 1, shape == BEHIND && to == i ? NULLABLE : NON_NULL, 0, 0);
         }
-    words[at++] = LV_NONE; words[at++] = LV_NONE; words[at++] = LV_NONE;
-    return at;
+    return roots_row(at, LV_NONE, LV_NONE, LV_NONE) - words;
 }
 
 static double now(void) {
@@ -125,7 +117,7 @@ static uint32_t records(size_t b, size_t w, uint64_t *v) { return lv_records(tex
 static uint32_t cycle(size_t b, size_t w, uint64_t *v) { return lv_first_cycle(text, b, words, w, cycle_row, work, MOST_WORK, out, MOST_OUT, v); }
 static uint32_t make(size_t b, size_t w, uint64_t *v) { return lv_make_evidence(text, b, words, w, work, MOST_WORK, evidence, MOST_WORK, v); }
 static uint32_t judge(size_t b, size_t w, uint64_t *v) {
-    uint32_t row = 0, rule = 0, n = lv_check_evidence(text, b, words, w, evidence, 6 * words[1], &row, &rule);
+    uint32_t row = 0, rule = 0, n = lv_check_evidence(text, b, words, w, evidence, LV_EVIDENCE_WORDS * counts_of(words).types, &row, &rule);
     *v = rule;
     return n;
 }
@@ -152,9 +144,9 @@ static void measure(family *f, int round) {
     for (int s = 0; s < 3; s++) {
         size_t n = f->shape == LIMITS ? limits(f->sizes[s]) : inputs(f->sizes[s], f->shape);
         f->lengths[s] = n;
-        cycle_row = f->shape == LIMITS ? words[1] - 1 : 0;
+        cycle_row = f->shape == LIMITS ? counts_of(words).types - 1 : 0;
         for (int k = 0; k < 5; k++) {
-            double t = best(functions[k], 4 * (size_t)words[0], n, &f->values[k]);
+            double t = best(functions[k], 4 * (size_t)counts_of(words).names, n, &f->values[k]);
             if (round == 0 || t < f->times[k][s]) f->times[k][s] = t;
         }
     }

@@ -16,14 +16,12 @@
 #include <string.h>
 
 #include "lhakvuni.h"
+#include "../examples/c/table.h"
 
-#define NONE 4294967295u
-#define INPUT_OBJECT 5
 #define OTHER_WORK 0xa5a50000u /* what lent words hold, plus their index */
 #define OTHER_OUT 0x5a5a0000u
-#define MORE_WORK 5 /* work words beyond 3T: they must stay */
+#define MORE_WORK 5 /* work words beyond those for the types: they must stay */
 #define FIRST_TRY 64 /* output words of the first call; a longer list is refused and asked for again */
-#define TYPES_MOST 1024
 
 struct table {
     uint8_t *text;
@@ -40,7 +38,7 @@ struct answer {
     uint64_t value;
 };
 
-static uint32_t work[3 * TYPES_MOST + MORE_WORK];
+static uint32_t work[LV_MOST_WORK + MORE_WORK];
 
 static void fault(const char *format, ...) {
     va_list args;
@@ -106,39 +104,39 @@ static int untouched(const uint32_t *words, size_t from, size_t to, uint32_t oth
     return 1;
 }
 
-/* After a success or refusal 10, 3T work words are 0 and the rest as they were. */
-static void check_work(const char *call, size_t types) {
-    for (size_t i = 0; i < 3 * types; i++)
+/* After a success or refusal 10, the work words for the types are 0 and the rest as they were. */
+static void check_work(const char *call, size_t used) {
+    for (size_t i = 0; i < used; i++)
         if (work[i] != 0) {
             fault("%s leaves work word %zu not 0", call, i);
             return;
         }
-    if (!untouched(work, 3 * types, 3 * types + MORE_WORK, OTHER_WORK))
+    if (!untouched(work, used, used + MORE_WORK, OTHER_WORK))
         fault("%s writes behind the work words", call);
 }
 
 /* One call: the records, or the first cycle of a type row if there is one. */
 static void call_once(const struct table *t, uint32_t type_row, struct answer *a) {
-    size_t types = t->words[1], work_len = 3 * types + MORE_WORK;
+    size_t used = LV_WORK_WORDS * (size_t)counts_of(t->words).types, work_len = used + MORE_WORK;
     fill(work, 0, work_len, OTHER_WORK);
     fill(a->out, 0, a->out_len, OTHER_OUT);
     a->value = 0x123456789abcdefull;
-    if (type_row == NONE)
+    if (type_row == LV_NONE)
         a->number = lv_records(t->text, t->text_len, t->words, t->words_len, work, work_len, a->out, a->out_len, &a->value);
     else
         a->number = lv_first_cycle(t->text, t->text_len, t->words, t->words_len, type_row, work, work_len, a->out,
                                    a->out_len, &a->value);
-    check_work(type_row == NONE ? "lv_records" : "lv_first_cycle", types);
+    check_work(type_row == LV_NONE ? "lv_records" : "lv_first_cycle", used);
 }
 
 /* Asks with a short output, and again with as many words as are needed. Gives the rows written. */
 static size_t ask(const struct table *t, uint32_t type_row, size_t row_words, struct answer *a) {
-    const char *call = type_row == NONE ? "lv_records" : "lv_first_cycle";
+    const char *call = type_row == LV_NONE ? "lv_records" : "lv_first_cycle";
     a->out_len = FIRST_TRY;
     a->out = room(4 * a->out_len);
     call_once(t, type_row, a);
     uint64_t need = 0;
-    if (a->number == 10) {
+    if (a->number == LV_SHORT_OUT) {
         need = a->value;
         if (need <= FIRST_TRY)
             fault("%s refuses an output that is long enough", call);
@@ -149,7 +147,7 @@ static size_t ask(const struct table *t, uint32_t type_row, size_t row_words, st
         a->out = room(4 * a->out_len);
         call_once(t, type_row, a);
     }
-    if (a->number != 0) {
+    if (a->number != LV_DONE) {
         fault("%s gives number %u", call, (unsigned)a->number);
         return 0;
     }
@@ -163,7 +161,7 @@ static size_t ask(const struct table *t, uint32_t type_row, size_t row_words, st
 }
 
 static void print_word(uint32_t w) {
-    if (w == NONE)
+    if (w == LV_NONE)
         fputs(" -", stdout);
     else
         printf(" %u", (unsigned)w);
@@ -171,11 +169,11 @@ static void print_word(uint32_t w) {
 
 static void print_records(const struct table *t) {
     struct answer a;
-    size_t rows = ask(t, NONE, 5, &a);
+    size_t rows = ask(t, LV_NONE, LV_RECORD_WORDS, &a);
     for (size_t i = 0; i < rows; i++) {
         putchar('r');
-        for (size_t j = 0; j < 5; j++)
-            print_word(a.out[5 * i + j]);
+        for (size_t j = 0; j < LV_RECORD_WORDS; j++)
+            print_word(a.out[LV_RECORD_WORDS * i + j]);
         putchar('\n');
     }
     free(a.out);
@@ -200,9 +198,8 @@ static void answer_table(const struct table *t) {
         return;
     }
     print_records(t);
-    const uint32_t *types = t->words + 7 + 2 * t->words[0];
-    for (uint32_t row = 0; row < t->words[1]; row++)
-        if (types[7 * row + 1] == INPUT_OBJECT)
+    for (uint32_t row = 0; row < counts_of(t->words).types; row++)
+        if (kind_of(t->words, row) == LV_INPUT_OBJECT)
             print_first_cycle(t, row);
 }
 

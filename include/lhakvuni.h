@@ -148,7 +148,7 @@ enum lv_place {
 };
 
 /*
- * Whether a table with its text is well-formed: 0, or 1 to 6. Nothing is written.
+ * Whether a table with its text is well-formed: 0, or one of the table's refusals. Nothing is written.
  *
  * text, text_len     the names' bytes; at most LV_MOST_TEXT, or the answer is 2
  * words, words_len   the schema table
@@ -157,7 +157,7 @@ uint32_t lv_check_table(const uint8_t *text, size_t text_len, const uint32_t *wo
 
 /*
  * The list of records: every rule that the schema breaks, in a fixed order, LV_RECORD_WORDS words each from the start of out. A schema
- * without a fault has none: 0 is returned and *value is 0. The checks, in order: 1 to 6, 9, 10.
+ * without a fault has none: 0 is returned and *value is 0. The checks, in order: the table's, 9, 10.
  *
  * text, text_len     as for lv_check_table
  * words, words_len   as for lv_check_table
@@ -171,7 +171,7 @@ uint32_t lv_records(const uint8_t *text, size_t text_len, const uint32_t *words,
 /*
  * The first cycle of an input object: the least chain, by dictionary order of field rows, of non-null fields that leads from the type back to
  * it and visits no type twice on its way. Its field rows are written in order, one word each from the start of out. Where there is no such
- * chain, 0 is returned and *value is 0. The checks, in order: 1 to 6, 7, 9, 10.
+ * chain, 0 is returned and *value is 0. The checks, in order: the table's, 7, 9, 10.
  *
  * text, text_len     as for lv_check_table
  * words, words_len   as for lv_check_table
@@ -187,7 +187,7 @@ uint32_t lv_first_cycle(const uint8_t *text, size_t text_len, const uint32_t *wo
  * Evidence: which input objects lie on closed chains of non-null fields, LV_EVIDENCE_WORDS words for each type, so that a reader can see without a
  * search that every mark is right. Number, leader, out field, out distance, in field, in depth; a type whose leader is LV_NONE is unmarked.
  *
- * Judges evidence from anywhere. The checks, in order: 1 to 6, 8. Where 0 is returned, *rule is 0 and *row is LV_NONE if the evidence passes,
+ * Judges evidence from anywhere. The checks, in order: the table's, 8. Where 0 is returned, *rule is 0 and *row is LV_NONE if the evidence passes,
  * and then a type is marked exactly if a closed chain runs through it; else *row is the first type row that breaks one of the seven rules,
  * and *rule the lowest that it breaks.
  *
@@ -201,7 +201,7 @@ uint32_t lv_check_evidence(const uint8_t *text, size_t text_len, const uint32_t 
 
 /*
  * Makes evidence that passes, from the start of out. It is lent memory and answers as lv_records, but that it needs LV_EVIDENCE_WORDS work words
- * for each type, which are 0 afterwards, and as many of out; *value is the number of types on 0. The checks, in order: 1 to 6, 9, 10.
+ * for each type, which are 0 afterwards, and as many of out; *value is the number of types on 0. The checks, in order: the table's, 9, 10.
  */
 uint32_t lv_make_evidence(const uint8_t *text, size_t text_len, const uint32_t *words, size_t words_len,
                           uint32_t *work, size_t work_len, uint32_t *out, size_t out_len, uint64_t *value);

@@ -9,27 +9,41 @@
 #include <inttypes.h>
 #include <stdio.h>
 #include "lhakvuni.h"
+#include "table.h"
 
 /* interface Whiteboard { board(room: ID!): ID }  type Board implements Whiteboard { board: ID }  type Query { board: Board } */
 static const uint8_t text[] = "BoardIDQueryWhiteboardboardroom";
-static const uint32_t words[] = {
-    6, 3, 1, 3, 1, 0, 0,                    /* counts */
-    0, 5, 5, 2, 7, 5, 12, 10, 22, 5, 27, 4, /* names */
-    3, LV_INTERFACE, 0, 0, 1, 0, 0,         /* types */
-    0, LV_OBJECT, 0, 1, 2, 0, 0,
-    2, LV_OBJECT, 0, 1, 3, 0, 0,
-    3,                                      /* edges */
-    4, 1, 0, 1, 0,                          /* fields */
-    4, 1, 0, 1, 0,
-    4, 0, 0, 1, 0,
-    5, 1, 16, 0,                            /* arguments */
-    2, LV_NONE, LV_NONE,                    /* roots */
-};
+enum { BOARD, ID, QUERY, WHITEBOARD, FIELD_BOARD, ROOM }; /* the names, as they stand in the text */
+enum { NULLABLE = 0, NON_NULL = 16 }; /* the wraps of ID and ID! */
+
+static uint32_t words[HEADER_WORDS + 6 * NAME_WORDS + 3 * TYPE_WORDS + EDGE_WORDS + 3 * FIELD_WORDS + ARGUMENT_WORDS + ROOT_WORDS];
+
+static void write_table(void)
+{
+    uint32_t *at = header(words, (counts){.names = 6, .types = 3, .edges = 1, .fields = 3, .arguments = 1});
+    at = name_row(at, 0, 5);
+    at = name_row(at, 5, 2);
+    at = name_row(at, 7, 5);
+    at = name_row(at, 12, 10);
+    at = name_row(at, 22, 5);
+    at = name_row(at, 27, 4);
+    at = type_row(at, WHITEBOARD, LV_INTERFACE, 0, (ends){.edges = 0, .fields = 1});
+    at = type_row(at, BOARD, LV_OBJECT, 0, (ends){.edges = 1, .fields = 2});
+    at = type_row(at, QUERY, LV_OBJECT, 0, (ends){.edges = 1, .fields = 3});
+    at = edge_row(at, WHITEBOARD);
+    at = field_row(at, FIELD_BOARD, ID, NULLABLE, 1, 0);
+    at = field_row(at, FIELD_BOARD, ID, NULLABLE, 1, 0);
+    at = field_row(at, FIELD_BOARD, BOARD, NULLABLE, 1, 0);
+    at = argument_row(at, ROOM, ID, NON_NULL, 0);
+    roots_row(at, QUERY, LV_NONE, LV_NONE);
+}
+
 static uint32_t work[LV_MOST_WORK], out[16 * LV_RECORD_WORDS];
 
 int main(void)
 {
     uint64_t value = 0;
+    write_table();
     uint32_t number = lv_records(text, sizeof text - 1, words, sizeof words / sizeof *words,
                                  work, sizeof work / sizeof *work, out, sizeof out / sizeof *out, &value);
     if (number != LV_DONE) {

@@ -3,6 +3,7 @@
 // The incident that this library began with is played again: the type of a composed schema has dropped the room argument that its interface
 // demands. The list of records says so, and the board is not opened. The repaired schema has no record, and the board is opened. Then comes
 // document 01's whole case. The work table goes from one schema to the next as the call leaves it: nobody clears it in between.
+mod code_names;
 mod schemas;
 mod show;
 
@@ -10,7 +11,7 @@ use lhakvuni::Answer;
 use lhakvuni::records;
 use schemas::composed;
 use schemas::repaired;
-use schemas::whole_case;
+use shapes::whole_case;
 use show::show_need;
 use show::show_records;
 use show::show_refusal;
@@ -20,7 +21,7 @@ fn check(title: &[u8], text: &[u8], words: &[u32], work: &mut [u32], out: &mut [
     io::write_all(1, title);
     match records(text, words, work, out) {
         Answer::Rows(n) => show_records(out, n),
-        Answer::Refused(number) => show_refusal(number),
+        Answer::Refused(refusal) => show_refusal(refusal),
         Answer::Short(need) => show_need(need),
     }
 }
@@ -46,7 +47,7 @@ fn main() {
     check(
         b"the whole case: ",
         b"BoardIDNodeid",
-        &whole_case(),
+        &whole_case::table(),
         &mut work,
         &mut out,
     );

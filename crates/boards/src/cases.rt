@@ -1,50 +1,79 @@
 // A case: a call over lent memory that is full of one number, and what document 01 asks of its answer and of that memory.
+ghost use mathlib.Core.Path.{_≡_};
 ghost use Prim.Native.Nat.{_≤_};
 ghost use lib.ListN.{length};
+ghost use Rattle.boards.specs.Wants.{wantRows, wantTable, wantCall, wantShort};
+use chains::work::Work;
 use lhakvuni::Answer;
 use lhakvuni::check_table;
 use lhakvuni::first_cycle;
 use lhakvuni::records;
+use table::numbers::TypeRow;
+use table::refusal::Refusal;
 
 pub enum Call {
     Records,
     // Of the type at a row.
-    FirstCycle(u32),
+    FirstCycle(TypeRow),
 }
 
-// The refusal's number or 0; the rows, or for refusal 10 the need in words; how many words at the front of the work table are 0 afterwards.
+// The number of the table's check, and that of the call: a refusal's or 0; the rows, or for refusal 10 the need in words; how many words at
+// the front of the work table are 0 afterwards.
 pub struct Want {
-    pub number: u32,
-    pub value: usize,
-    pub zeros: usize,
+    table: u32,
+    number: u32,
+    value: usize,
+    zeros: usize,
 }
 
 impl Want {
+    // So many rows of a table with so many types.
     pub fn rows(n: usize, types: usize) -> Want
         requires { ⌜ types ≤ 1024 ⌝ }
+        ensures { λ r. ⌜ r ≡ wantRows n types ⌝ }
     {
         Want {
+            table: 0,
             number: 0,
             value: n,
-            zeros: 3 * types,
+            zeros: Work::WORDS * types,
         }
     }
 
-    pub fn refusal(number: u32) -> Want {
+    // A refusal of the table.
+    pub fn table(refusal: Refusal) -> Want
+        ensures { λ r. ⌜ r ≡ wantTable (refusal .0) ⌝ }
+    {
         Want {
-            number,
+            table: refusal.0,
+            number: refusal.0,
             value: 0,
             zeros: 0,
         }
     }
 
-    pub fn short(need: usize, types: usize) -> Want
-        requires { ⌜ types ≤ 1024 ⌝ }
+    // A refusal of the call alone, before the output's.
+    pub fn call(refusal: Refusal) -> Want
+        ensures { λ r. ⌜ r ≡ wantCall (refusal .0) ⌝ }
     {
         Want {
-            number: 10,
+            table: 0,
+            number: refusal.0,
+            value: 0,
+            zeros: 0,
+        }
+    }
+
+    // An output that is too short.
+    pub fn short(need: usize, types: usize) -> Want
+        requires { ⌜ types ≤ 1024 ⌝ }
+        ensures { λ r. ⌜ r ≡ wantShort need types ⌝ }
+    {
+        Want {
+            table: 0,
+            number: Refusal::SHORT_OUT.0,
             value: need,
-            zeros: 3 * types,
+            zeros: Work::WORDS * types,
         }
     }
 }
@@ -91,17 +120,8 @@ fn cleared(s: &[u32], zeros: usize, number: u32) -> bool {
 fn answered(a: Answer, want: Want) -> bool {
     match a {
         Answer::Rows(n) => (want.number == 0) & (want.value == n),
-        Answer::Refused(number) => want.number == number,
-        Answer::Short(need) => (want.number == 10) & (want.value == need),
-    }
-}
-
-// The table's check gives a call's refusals 1 to 6, and 0 where the call goes on.
-fn checked(verdict: u32, want: Want) -> bool {
-    if want.number <= 6 {
-        verdict == want.number
-    } else {
-        verdict == 0
+        Answer::Refused(refusal) => want.number == refusal.0,
+        Answer::Short(need) => (want.number == Refusal::SHORT_OUT.0) & (want.value == need),
     }
 }
 
@@ -111,9 +131,9 @@ fn show_answer(a: Answer) {
             io::write_all(1, b", rows ");
             io::print_decimal(1, n as u64);
         }
-        Answer::Refused(number) => {
+        Answer::Refused(refusal) => {
             io::write_all(1, b", refusal ");
-            io::print_decimal(1, number as u64);
+            io::print_decimal(1, refusal.0 as u64);
         }
         Answer::Short(need) => {
             io::write_all(1, b", refusal 10, words needed ");
@@ -159,7 +179,7 @@ fn run(
 }
 
 // A call over so many words of work and of output, full of a number.
-pub fn case(
+pub(crate) fn case(
     title: &[u8],
     call: Call,
     text: &[u8],
@@ -174,13 +194,13 @@ pub fn case(
 {
     let mut works = [number; 3072];
     let mut outs = [number; 20];
-    let verdict = table::check::number(check_table(text, words));
+    let verdict = wellformed::check::number(check_table(text, words));
     let a = run(call, text, words, &mut works, work, &mut outs, out);
     let kept = cleared(&works, want.zeros, number) & left(&outs, rows, number);
     report(
         title,
         verdict,
         a,
-        checked(verdict, want) & answered(a, want) & kept,
+        (verdict == want.table) & answered(a, want) & kept,
     );
 }

@@ -9,19 +9,48 @@ mod tables;
 use cases::Call;
 use cases::Want;
 use cases::case;
-use tables::NONE;
+use records::Record;
+use records::put;
+use shapes::whole_case;
+use table::layout::Layout;
+use table::numbers::TypeRow;
+use table::refusal::Refusal;
 use tables::equal_arguments;
 use tables::no_types;
 use tables::ring_of_two;
-use tables::whole_case;
+use tables::write_letters;
 use tables::write_scalars;
+
+const MOST: usize = Layout::MOST_TYPES;
+
+const MORE: usize = MOST + 1;
+
+// The words of a table with no rows, and those that a scalar adds.
+const LEAST: usize = Layout::HEADER + Layout::ROOTS;
+
+const SCALAR: usize = Layout::NAME + Layout::TYPE;
+
+// The words of one record, and of two.
+fn one(r: Record) -> [u32; Record::WORDS] {
+    let mut rows = [0; Record::WORDS];
+    put(&mut rows, r);
+    rows
+}
+
+fn two(first: Record, second: Record) -> [u32; 2 * Record::WORDS] {
+    let mut rows = [0; 2 * Record::WORDS];
+    put(&mut rows, first);
+    put(&mut rows[Record::WORDS..], second);
+    rows
+}
 
 // The most types, and one more.
 fn types() {
-    let mut text = [0; 2050];
-    let mut words = [0; 9226];
-    write_scalars(&mut text, &mut words, 1024);
-    let rows = [1, NONE, NONE, NONE, NONE];
+    let mut text = [0; 2 * MORE];
+    let mut words = [0; LEAST + SCALAR * MOST];
+    write_letters(&mut text, MORE);
+    write_scalars(&mut words, MOST);
+    let rows = one(Record::query_root_operation_type());
     case(
         b"1,024 types",
         Call::Records,
@@ -30,11 +59,11 @@ fn types() {
         7,
         3072,
         20,
-        Want::rows(1, 1024),
+        Want::rows(1, MOST),
         &rows,
     );
-    let mut more = [0; 9235];
-    write_scalars(&mut text, &mut more, 1025);
+    let mut more = [0; LEAST + SCALAR * MORE];
+    write_scalars(&mut more, MORE);
     case(
         b"1,025 types",
         Call::Records,
@@ -43,14 +72,18 @@ fn types() {
         7,
         3072,
         20,
-        Want::refusal(2),
+        Want::table(Refusal::ABOVE_LIMIT),
         &[],
     );
 }
 
 // Both repeats are told against the first.
 fn arguments() {
-    let rows = [20, 0, 0, 1, NONE, 20, 0, 0, 2, NONE];
+    let query = TypeRow(0);
+    let rows = two(
+        Record::unique_input_value(query, 0, 1),
+        Record::unique_input_value(query, 0, 2),
+    );
     case(
         b"three equal arguments",
         Call::Records,
@@ -75,11 +108,11 @@ fn least() {
         7,
         3072,
         20,
-        Want::refusal(1),
+        Want::table(Refusal::TOO_FEW_WORDS),
         &[],
     );
     let none = no_types();
-    let rows = [1, NONE, NONE, NONE, NONE];
+    let rows = one(Record::query_root_operation_type());
     case(
         b"no types",
         Call::Records,
@@ -100,7 +133,7 @@ fn whole(title: &[u8], number: u32, out: usize, want: Want, rows: &[u32])
         title,
         Call::Records,
         b"BoardIDNodeid",
-        &whole_case(),
+        &whole_case::table(),
         number,
         3072,
         out,
@@ -109,18 +142,27 @@ fn whole(title: &[u8], number: u32, out: usize, want: Want, rows: &[u32])
     );
 }
 
-// Two records are ten words. The same call is made twice, with lent memory full of other numbers.
-fn whole_cases() {
-    let rows = [1, NONE, NONE, NONE, NONE, 10, 1, 0, 0, 1];
-    whole(b"an output one row short", 7, 5, Want::short(10, 2), &[]);
-    whole(b"the whole case over 7", 7, 20, Want::rows(2, 2), &rows);
-    whole(
-        b"the whole case over NONE",
-        NONE,
-        20,
-        Want::rows(2, 2),
-        &rows,
+// The whole case with room for its two records, and lent memory full of a number.
+fn whole_over(title: &[u8], number: u32) {
+    let board = TypeRow(1);
+    let rows = two(
+        Record::query_root_operation_type(),
+        Record::invalid_implementation_field_type(board, 0, 0, 1),
     );
+    whole(title, number, 20, Want::rows(2, 2), &rows);
+}
+
+// Two records need two rows. The same call is made twice, with lent memory full of other numbers.
+fn whole_cases() {
+    whole(
+        b"an output one row short",
+        7,
+        Record::WORDS,
+        Want::short(2 * Record::WORDS, 2),
+        &[],
+    );
+    whole_over(b"the whole case over 7", 7);
+    whole_over(b"the whole case over NONE", TypeRow::NONE.0);
 }
 
 fn cycle(title: &[u8], row: u32, work: usize, want: Want, rows: &[u32])
@@ -128,7 +170,7 @@ fn cycle(title: &[u8], row: u32, work: usize, want: Want, rows: &[u32])
 {
     case(
         title,
-        Call::FirstCycle(row),
+        Call::FirstCycle(TypeRow(row)),
         b"ABSab",
         &ring_of_two(),
         7,
@@ -143,9 +185,27 @@ fn cycle(title: &[u8], row: u32, work: usize, want: Want, rows: &[u32])
 fn cycles() {
     cycle(b"first cycle of A", 0, 3072, Want::rows(2, 3), &[0, 1]);
     cycle(b"first cycle of B", 1, 3072, Want::rows(2, 3), &[1, 0]);
-    cycle(b"first cycle of a scalar", 2, 3072, Want::refusal(7), &[]);
-    cycle(b"first cycle of no type", 3, 3072, Want::refusal(7), &[]);
-    cycle(b"work one word short", 0, 8, Want::refusal(9), &[]);
+    cycle(
+        b"first cycle of a scalar",
+        2,
+        3072,
+        Want::call(Refusal::NO_INPUT_OBJECT),
+        &[],
+    );
+    cycle(
+        b"first cycle of no type",
+        3,
+        3072,
+        Want::call(Refusal::NO_INPUT_OBJECT),
+        &[],
+    );
+    cycle(
+        b"work one word short",
+        0,
+        8,
+        Want::call(Refusal::SHORT_WORK),
+        &[],
+    );
 }
 
 fn main() {

@@ -16,7 +16,7 @@ pub struct Head {
     pub rule: u32,
 }
 
-pub fn read_word() -> u32 {
+pub(crate) fn read_word() -> u32 {
     let mut b = [0; 4];
     io::read_full(0, &mut b);
     wide(b[0]) + 256 * wide(b[1]) + 65536 * wide(b[2]) + 16777216 * wide(b[3])
@@ -35,7 +35,7 @@ fn read_length() -> usize
     if n <= 4096 { n as usize } else { 4096 }
 }
 
-pub fn read_head() -> Head
+pub(crate) fn read_head() -> Head
     ensures { λ r. ⌜ Sized r ⌝ }
 {
     let call = read_word();
@@ -68,7 +68,7 @@ fn skip_byte() {
 }
 
 // Text is padded to whole words.
-pub fn read_text(text: &mut [u8]) {
+pub(crate) fn read_text(text: &mut [u8]) {
     io::read_full(0, text);
     let mut read = text.len() % 4;
     if read == 0 {
@@ -80,7 +80,7 @@ pub fn read_text(text: &mut [u8]) {
     }
 }
 
-pub fn read_words(words: &mut [u32]) {
+pub(crate) fn read_words(words: &mut [u32]) {
     let mut i = 0;
     while i < words.len() {
         words[i] = read_word();

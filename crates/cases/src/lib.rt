@@ -20,8 +20,9 @@ use lhakvuni::calls::records;
 use lhakvuni::judging::Judgement;
 use lhakvuni::judging::check_evidence;
 use lhakvuni::making::make_evidence;
+use table::numbers::TypeRow;
 
-pub mod input;
+mod input;
 
 fn same_words(a: &[u32], b: &[u32]) -> bool {
     if a.len() != b.len() {
@@ -52,7 +53,7 @@ fn answer_right(head: Head, a: Answer) -> bool {
 }
 
 fn check_table_right(head: Head, text: &[u8], words: &[u32]) -> bool {
-    table::check::number(check_table(text, words)) == head.number
+    wellformed::check::number(check_table(text, words)) == head.number
 }
 
 fn records_right(
@@ -72,7 +73,7 @@ fn first_cycle_right(
     work: &mut [u32],
     out: &mut [u32],
 ) -> bool {
-    answer_right(head, first_cycle(text, words, head.row, work, out))
+    answer_right(head, first_cycle(text, words, TypeRow(head.row), work, out))
 }
 
 // The judgement has the row and the rule that the case asks for, or the refusal's number; a case has 0 for what is not there.
@@ -82,7 +83,9 @@ fn judgement_right(head: Head, j: Judgement) -> bool {
         Judgement::Breaks { row, rule } => {
             (head.number == 0) & (head.value == row.0) & (head.rule == rule)
         }
-        Judgement::Refused(n) => (head.number == n) & (head.value == 0) & (head.rule == 0),
+        Judgement::Refused(refusal) => (head.number == refusal.0)
+            & (head.value == 0)
+            & (head.rule == 0),
     }
 }
 
@@ -206,9 +209,9 @@ fn run_case(head: Head) -> bool
 }
 
 // How many cases of each call were run, and how many were right.
-pub struct Tally {
-    pub ran: [u64; 6],
-    pub right: [u64; 6],
+struct Tally {
+    ran: [u64; 6],
+    right: [u64; 6],
 }
 
 impl Tally {
@@ -245,7 +248,7 @@ fn report_all(tally: Tally) {
     report(b"make_evidence", tally.right[5], tally.ran[5]);
 }
 
-// Runs every case of standard input.
+// Runs every case of standard input. What it reads and writes no contract can say.
 pub fn run() {
     let mut tally = Tally {
         ran: [0; 6],

@@ -5,11 +5,12 @@ use mathlib.Core.List.{List, _∷_, []}
 use Prim.Native.Nat.{ℕ, suc, zero, _<_}
 use native.Mathlib.Omega.{arith}
 use lib.ListN.{getD}
+use Rattle.table.specs.Kinds.{inputObjectKind}
 use Rattle.table.specs.Layout.{nameCount, typeCount, edgeCount, typesAt, edgesAt, fieldsAt, wordAt, startAt}
 use Rattle.rows.specs.Search.{find}
 use Rattle.rows.specs.Types.{typeNamed, defined}
 use Rattle.chains.specs.Chains.{Chain, FirstCycle, NoCycle}
-use Rattle.chains.specs.Fields.{inputObjectKind, inputObjectNamed, chainTarget, chainsEnd, chainGraph}
+use Rattle.chains.specs.Fields.{inputObjectNamed, chainTarget, chainsEnd, chainGraph}
 use Rattle.chains.specs.Answer.{Settled}
 use Rattle.chains.specs.Search.{Fail.done, Fail.skip, Fail.enter, Find.here, Find.below}
 use Rattle.chains.specs.Boards.{selfWords, listWords, nullWords, tailWords, ringWords}

@@ -12,7 +12,7 @@ use lib.ListN.{length, getD, set}
 use Rattle.chains.specs.Chains.{Graph, Distinct, Distinct.none, Distinct.more, LexLe, LexLe.nil, LexLe.less, LexLe.same}
 use Rattle.chains.specs.Chains.{PathTo, PathTo.last, PathTo.step, FirstCycle, NoCycle}
 use Rattle.chains.specs.Search.{Fail, Fail.done, Fail.skip, Fail.enter, Find, Find.here, Find.below, Find.past, Find.later}
-use Rattle.chains.proofs.Marks.{Marked, same-or-not, at-or-after, mark-same, mark-grows, mark-new, unmarked-old}
+use Rattle.chains.proofs.Marks.{HasMark, same-or-not, at-or-after, mark-same, mark-grows, mark-new, unmarked-old}
 
 -- no type of ws is on the stack S
 abbrev Avoids : List ℕ → List ℕ → Type 0
@@ -30,17 +30,17 @@ Since f (g ∷ gs) = f ≤ g
 module _ (g : Graph) (t : ℕ) where
   -- every chain field of v leads to a marked type that is not the target
   abbrev pub Closed : List ℕ → ℕ → Type 0
-  Closed W v = (f : ℕ) → g .start v ≤ f → f < g .stop v → g .next f < g .types → (g .next f ≡ t → ⊥) × Marked W (g .next f)
+  Closed W v = (f : ℕ) → g .start v ≤ f → f < g .stop v → g .next f < g .types → (g .next f ≡ t → ⊥) × HasMark W (g .next f)
 
   -- every marked type is on the stack, or finished
   abbrev pub Good : List ℕ → List ℕ → Type 0
-  Good S W = (v : ℕ) → v < g .types → Marked W v → List·Memᴰ v S ⊎ Closed W v
+  Good S W = (v : ℕ) → v < g .types → HasMark W v → List·Memᴰ v S ⊎ Closed W v
 
-  closed-grows : (W X : List ℕ) (v : ℕ) → ((u : ℕ) → Marked W u → Marked X u) → Closed W v → Closed X v
+  closed-grows : (W X : List ℕ) (v : ℕ) → ((u : ℕ) → HasMark W u → HasMark X u) → Closed W v → Closed X v
   closed-grows W X v grow k f a b c = (k f a b c .0, grow (g .next f) (k f a b c .1))
 
   -- marks only grow
-  pub fail-grows : {s f : ℕ} {W X : List ℕ} → Fail g t s f W X → (v : ℕ) → Marked W v → Marked X v
+  pub fail-grows : {s f : ℕ} {W X : List ℕ} → Fail g t s f W X → (v : ℕ) → HasMark W v → HasMark X v
   fail-grows (done h) v m = m
   fail-grows (skip h k r) v m = fail-grows r v m
   fail-grows (enter {f} {W} h o q r) v m = fail-grows r v (fail-grows q v (mark-grows W (g .next f) (o .room) v m))
@@ -50,7 +50,7 @@ module _ (g : Graph) (t : ℕ) where
 
   -- the fields that were walked lead to marked types
   fail-closed : {s f : ℕ} {W X : List ℕ} → Fail g t s f W X
-      → (j : ℕ) → f ≤ j → j < g .stop s → g .next j < g .types → (g .next j ≡ t → ⊥) × Marked X (g .next j)
+      → (j : ℕ) → f ≤ j → j < g .stop s → g .next j < g .types → (g .next j ≡ t → ⊥) × HasMark X (g .next j)
   fail-closed (done h) j a b c = absurd (omega arith)
   fail-closed {X} (skip {f} {W} h k r) j a b c =
       ⊎-elim
@@ -65,17 +65,17 @@ module _ (g : Graph) (t : ℕ) where
 
   -- a type that is marked after the walk of u failed was marked before u was entered, or is finished
   entered : (W X : List ℕ) (u : ℕ) → u < length W → Fail g t u (g .start u) (set W u 1) X
-      → (v : ℕ) → Marked (set W u 1) v ⊎ Closed X v → Marked W v ⊎ Closed X v
+      → (v : ℕ) → HasMark (set W u 1) v ⊎ Closed X v → HasMark W v ⊎ Closed X v
   entered W X u room q v (inl m) = ⊎-elim (λ (e : v ≡ u). inr (rw e (fail-closed q))) (λ n. inl n) (mark-new W u room v m)
   entered W X u room q v (inr k) = inr k
 
   -- a type that was entered on the way is finished
-  fail-new : {s f : ℕ} {W X : List ℕ} → Fail g t s f W X → (v : ℕ) → Marked X v → Marked W v ⊎ Closed X v
+  fail-new : {s f : ℕ} {W X : List ℕ} → Fail g t s f W X → (v : ℕ) → HasMark X v → HasMark W v ⊎ Closed X v
   fail-new (done h) v m = inl m
   fail-new (skip h k r) v m = fail-new r v m
   fail-new {X} (enter {f} {W} {Y} h o q r) v m = ⊎-elim (λ m′. before (entered W Y (g .next f) (o .room) q v (fail-new q v m′))) (λ k. inr k) (fail-new r v m)
     where
-      before : Marked W v ⊎ Closed Y v → Marked W v ⊎ Closed X v
+      before : HasMark W v ⊎ Closed Y v → HasMark W v ⊎ Closed X v
       before (inl n) = inl n
       before (inr k) = inr (closed-grows Y X v (fail-grows r) k)
 
@@ -88,7 +88,7 @@ module _ (g : Graph) (t : ℕ) where
       before (inr k) = inr (closed-grows W X v (λ w i. fail-grows q w (mark-grows W u room w i)) k)
 
   -- from a marked type no chain leads to the target that goes round the stack
-  blocked : (S W : List ℕ) → Good S W → {v : ℕ} {gs vs : List ℕ} → PathTo g t v gs vs → v < g .types → Marked W v → Avoids S vs → ⊥
+  blocked : (S W : List ℕ) → Good S W → {v : ℕ} {gs vs : List ℕ} → PathTo g t v gs vs → v < g .types → HasMark W v → Avoids S vs → ⊥
   blocked S W good (last {t = v} c) low m a =
       ⊎-elim (λ i. a v (List·Memᴰ·head refl) i) (λ k. k _ (c .low) (c .high) (rw (c .leads) (c .type)) .0 (c .leads)) (good v low m)
   blocked S W good (step {t = v} {v = u} c p) low m a =
@@ -171,7 +171,7 @@ module _ (g : Graph) (t : ℕ) where
   in-tail (v ∷ ws) i = List·Memᴰ·tail i
 
   -- where f leads to a marked type, a chain round the stack starts later than f
-  beyond : (S X : List ℕ) → Good S X → {s f : ℕ} {gs vs : List ℕ} → (g .next f < g .types → (g .next f ≡ t → ⊥) × Marked X (g .next f))
+  beyond : (S X : List ℕ) → Good S X → {s f : ℕ} {gs vs : List ℕ} → (g .next f < g .types → (g .next f ≡ t → ⊥) × HasMark X (g .next f))
       → Starts s f gs vs → Avoids S (tail vs) → Since (suc f) gs
   beyond S X good k (later-on h) av = h
   beyond S X good k (at-last l e) av = absurd (k l .0 e)

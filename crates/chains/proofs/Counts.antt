@@ -1,19 +1,18 @@
 -- The rows of a first cycle, and their count, as functions of the table: every type has a first cycle or no closed chain, so there is a
 -- list to name, and what it is follows from `rows-right` alone, as the rows of a type are one.
-use mathlib.Core.Path.{_≡_, refl, sym, ap, _∙_}
+use mathlib.Core.Path.{_≡_, refl, sym, ap}
 use mathlib.Core.Bool.{false}
 use mathlib.Core.Logic.{_⊎_, inl, inr, ⊎-elim}
-use mathlib.Core.List.{List, [], _++_}
+use mathlib.Core.List.{List, []}
 use Prim.Native.Nat.{ℕ, _≤_, _<_}
 use native.Mathlib.Omega.{arith}
-use lib.ListN.{length, take, drop}
-use Rattle.names.proofs.BoolLaws.{true-false}
+use lib.ListN.{length}
+use Rattle.names.proofs.BoolLaws.{true-false, below-or-from}
 use Rattle.table.specs.Layout.{typeCount}
 use Rattle.chains.specs.Chains.{Graph, Chain, PathTo, PathTo.last, PathTo.step, FirstCycle, NoCycle}
 use Rattle.chains.specs.Fields.{isInputObject, chainGraph}
-use Rattle.chains.specs.Answer.{CycleRows, CycleCount, Answer}
+use Rattle.chains.specs.Answer.{CycleRows, CycleCount}
 use Rattle.chains.proofs.FieldLaws.{end-right}
-use Rattle.chains.proofs.Marks.{below-or-not}
 use Rattle.chains.proofs.Order.{rows-unique, count-unique}
 use Rattle.chains.proofs.Total.{decided}
 
@@ -27,17 +26,13 @@ path-fields (last c) = omega arith
 path-fields (step c p) = omega arith
 
 module _ (w : List ℕ) where
-  -- each type has a first cycle or no closed chain; never both, by `never-both` of proofs/Order
-  pub first-or-none : (t : ℕ) → t < typeCount w → ((fs : List ℕ) × FirstCycle (chainGraph w) t fs) ⊎ NoCycle (chainGraph w) t
-  first-or-none t low = decided (chainGraph w) t low
-
   rows-of : (t : ℕ) → (t < typeCount w) ⊎ (typeCount w ≤ t) → (fs : List ℕ) × (t < typeCount w → CycleRows (chainGraph w) t fs)
   rows-of t (inl h) = let r = rows-exist (chainGraph w) t h in (r .0, λ _. r .1)
   rows-of t (inr h) = ([], λ l. absurd (omega arith))
 
   -- the rows of the first cycle of type t, if it has one
   pub cycleRows : ℕ → List ℕ
-  cycleRows t = rows-of t (below-or-not t (typeCount w)) .0
+  cycleRows t = rows-of t (below-or-from t (typeCount w)) .0
 
   -- the count of type t: 0 with no closed chain, else the fields of its first cycle
   pub cycleCount : ℕ → ℕ
@@ -46,7 +41,7 @@ module _ (w : List ℕ) where
   module _ (t : ℕ) (low : t < typeCount w) where
     pub rows-right : CycleRows (chainGraph w) t (cycleRows t)
     unfolding cycleRows
-    rows-right = rows-of t (below-or-not t (typeCount w)) .1 low
+    rows-right = rows-of t (below-or-from t (typeCount w)) .1 low
 
     pub count-right : CycleCount (chainGraph w) t (cycleCount t)
     unfolding cycleCount
@@ -57,16 +52,6 @@ module _ (w : List ℕ) where
 
     pub count-is : (n : ℕ) → CycleCount (chainGraph w) t n → n ≡ cycleCount t
     count-is n c = count-unique (chainGraph w) t n (cycleCount t) c count-right
-
-    -- what `first_cycle` promises, by the two functions
-    pub answer-count : (before after : List ℕ) (n : ℕ) → Answer (chainGraph w) t before after n → n ≡ cycleCount t
-    unfolding cycleCount
-    answer-count before after n a = a .count ∙ ap length (rows-are (a .fields) (a .right))
-
-    pub answer-written : (before after : List ℕ) (n : ℕ) → Answer (chainGraph w) t before after n
-        → after ≡ take (length before) (cycleRows t) ++ drop (cycleCount t) before
-    unfolding cycleCount
-    answer-written before after n a = rw (← rows-are (a .fields) (a .right)) (a .written)
 
     -- the count of a type with a first cycle
     pub first-count : (fs : List ℕ) → FirstCycle (chainGraph w) t fs → cycleCount t ≡ length fs

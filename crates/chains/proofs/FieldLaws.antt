@@ -11,10 +11,11 @@ use borrow.Author.Tests.{eq-eqb, eqb-true, lt-ltb, ltb-true}
 use Rattle.names.proofs.BoolLaws.{decide, and-left, and-right}
 use Rattle.rows.proofs.FoundTypes.{type-named-at, type-named-only}
 use Rattle.rows.specs.Types.{typeNamed, defined, kindNamed}
+use Rattle.table.specs.Kinds.{inputObjectKind}
 use Rattle.table.specs.Layout.{typeCount, typeName, fieldsStart, fieldsEnd, fieldType, fieldWrap}
-use Rattle.table.specs.Sound.{Sound}
+use Rattle.wellformed.specs.Sound.{Sound}
 use Rattle.chains.specs.Chains.{Chain}
-use Rattle.chains.specs.Fields.{inputObjectKind, isInputObject, inputObjectNamed, chainTarget, chainsEnd, chainGraph, chainWrap, ChainField}
+use Rattle.chains.specs.Fields.{isInputObject, inputObjectNamed, chainTarget, chainsEnd, chainGraph, chainWrap, ChainField}
 
 module _ (w : List ℕ) where
   -- where the name is an input object's, that is its row; of any other name there is none

@@ -4,33 +4,31 @@ use mathlib.Core.Logic.{_⊎_, inl, inr, ⊎-elim, _≢_}
 use mathlib.Core.List.{List}
 use Prim.Native.Nat.{ℕ, suc, zero, _≤_, _<_}
 use native.Mathlib.Omega.{arith}
-use native.Mathlib.Decide.{ℕ-discrete, decLt}
+use native.Mathlib.Decide.{ℕ-discrete}
 use lib.ListN.{length, getD, set, length-set}
 use lib.Seq.{getD-set-same, getD-set-other, drop-set-lt}
 use Rattle.chains.specs.Chains.{Graph}
 use Rattle.chains.specs.Search.{free, unit, OnlyMarks, Fail, Fail.done, Fail.skip, Fail.enter}
 
+-- numbers are the same, or not
 pub same-or-not : (a b : ℕ) → (a ≡ b) ⊎ (a ≢ b)
 same-or-not a b = elim (ℕ-discrete a b) [ yes e ↦ inl e | no n ↦ inr n ]
-
-pub below-or-not : (a b : ℕ) → (a < b) ⊎ (b ≤ a)
-below-or-not a b = elim (decLt a b) [ yes h ↦ inl h | no n ↦ inr (omega arith) ]
 
 -- a number from f on is f, or comes later
 pub at-or-after : (f g : ℕ) → f ≤ g → (g ≡ f) ⊎ (f < g)
 at-or-after f g h = ⊎-elim (λ e. inl e) (λ n. inr (omega arith)) (same-or-not g f)
 
-abbrev pub Marked : List ℕ → ℕ → Type 0
-Marked W v = getD W v 0 ≡ 0 → ⊥
+abbrev pub HasMark : List ℕ → ℕ → Type 0
+HasMark W v = getD W v 0 ≡ 0 → ⊥
 
 module _ (W : List ℕ) (u : ℕ) (room : u < length W) where
-  pub mark-same : Marked (set W u 1) u
+  pub mark-same : HasMark (set W u 1) u
   mark-same e = omega (arith, getD-set-same W u 1 0 room)
 
-  pub mark-grows : (v : ℕ) → Marked W v → Marked (set W u 1) v
+  pub mark-grows : (v : ℕ) → HasMark W v → HasMark (set W u 1) v
   mark-grows v m = ⊎-elim (λ (e : v ≡ u). rw e mark-same) (λ n. rw (getD-set-other W u v 1 0 n) m) (same-or-not v u)
 
-  pub mark-new : (v : ℕ) → Marked (set W u 1) v → (v ≡ u) ⊎ Marked W v
+  pub mark-new : (v : ℕ) → HasMark (set W u 1) v → (v ≡ u) ⊎ HasMark W v
   mark-new v m = ⊎-elim (λ e. inl e) (λ n. inr (rw (getD-set-other W u v 1 0 n) at m)) (same-or-not v u)
 
   pub unmarked-old : (v : ℕ) → getD (set W u 1) v 0 ≡ 0 → getD W v 0 ≡ 0

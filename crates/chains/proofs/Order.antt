@@ -7,7 +7,7 @@ use Prim.Native.Nat.{ℕ}
 use native.Mathlib.Omega.{arith}
 use lib.ListN.{length}
 use Rattle.chains.specs.Chains.{Graph, LexLe, LexLe.nil, LexLe.less, LexLe.same, FirstCycle, NoCycle}
-use Rattle.chains.specs.Answer.{CycleRows, CycleCount, Answer}
+use Rattle.chains.specs.Answer.{CycleRows, CycleCount, CycleAnswered}
 
 pub lex-antisym : {fs gs : List ℕ} → LexLe fs gs → LexLe gs fs → fs ≡ gs
 lex-antisym nil nil = refl
@@ -32,7 +32,7 @@ module _ (g : Graph) (t : ℕ) where
   pub count-unique : (m n : ℕ) → CycleCount g t m → CycleCount g t n → m ≡ n
   count-unique m n p q = p .count ∙ ap length (rows-unique (p .fields) (q .fields) (p .right) (q .right)) ∙ sym (q .count)
 
-  pub answer-unique : (before a b : List ℕ) (m n : ℕ) → Answer g t before a m → Answer g t before b n → (a ≡ b) × (m ≡ n)
+  pub answer-unique : (before a b : List ℕ) (m n : ℕ) → CycleAnswered g t before a m → CycleAnswered g t before b n → (a ≡ b) × (m ≡ n)
   answer-unique before a b m n p q =
       let e : p .fields ≡ q .fields = rows-unique (p .fields) (q .fields) (p .right) (q .right) in
       (p .written ∙ rw e (sym (q .written)), p .count ∙ ap length e ∙ sym (q .count))

@@ -3,16 +3,17 @@ use mathlib.Core.Path.{_≡_, refl, sym, ap, _∙_}
 use mathlib.Core.Logic.{_≢_, ⊎-elim}
 use mathlib.Core.Bool.{Bool, true, _&&_}
 use mathlib.Core.List.{List, _∷_, [], _++_}
-use Prim.Native.Nat.{ℕ, zero, suc, _+_, _*_, _≤_, _<_}
+use Prim.Native.Nat.{ℕ, zero, suc, _+_, _≤_, _<_}
 use native.Mathlib.Omega.{arith}
 use lib.ListN.{length, getD, set, replicate, length-set, length-append, length-replicate, getD-replicate, List·getD-append}
 use lib.Seq.{getD-set-same, getD-set-other, drop-set-lt}
-use Rattle.names.proofs.BoolLaws.{and-left, and-right}
+use Rattle.names.proofs.BoolLaws.{and-left, and-right, below-or-from}
 use Rattle.chains.specs.Chains.{Graph, Chain, PathTo, PathTo.last, PathTo.step, NoCycle}
+use Rattle.chains.specs.Work.{orderAt}
 use Rattle.chains.specs.Answer.{Marking, Settled, unentered, Forgotten}
 use Rattle.chains.specs.Settle.{Settling, SettledTo, AllSettled}
 use Rattle.chains.specs.Search.{free}
-use Rattle.chains.proofs.Marks.{same-or-not, below-or-not, free-le, unmarked-old}
+use Rattle.chains.proofs.Marks.{same-or-not, free-le, unmarked-old}
 
 -- a chain to s and a chain field of s make a chain to where that field leads
 join-last : {g : Graph} {s v f : ℕ} → Chain g s f v → {t : ℕ} {fs vs : List ℕ} → PathTo g s t fs vs → PathTo g v t (fs ++ f ∷ []) (vs ++ s ∷ [])
@@ -110,13 +111,13 @@ module _ {g : Graph} {W X : List ℕ} {s f : ℕ} (t : Settling g W X) where
       (λ b. let e : h ≡ f = omega arith in
       let k : g .next f ≡ u = rw e at (c .leads) in
       rw k at (here (rw k (c .type))))
-      (below-or-not h f)
+      (below-or-from h f)
 
   pub led-turn : (a b : Bool) → (a ≡ true → SettledTo g X f) → (b ≡ true → LedTo g W s f) → (a && b) ≡ true → LedTo g X s (f + 1)
   led-turn a b here below e = led-more (here (and-left a b e)) (below (and-right a b e))
 
 -- where no type is marked, none is settled
-pub blank-settled : (g : Graph) (W : List ℕ) → 2 * g .types ≤ length W → ((v : ℕ) → v < g .types → getD W v 0 ≡ 0) → Settled g W
+pub blank-settled : (g : Graph) (W : List ℕ) → orderAt (g .types) ≤ length W → ((v : ℕ) → v < g .types → getD W v 0 ≡ 0) → Settled g W
 blank-settled g W room zeros =
     record {
       marking = record {
@@ -134,7 +135,7 @@ cleared-zero n rest v h =
     let c : v < length {A = ℕ} (replicate n 0) = rw length-replicate h in
     List·getD-append (replicate n 0) rest 0 v c ∙ getD-replicate n v 0 0 h
 
-pub cleared-settled : (g : Graph) (n : ℕ) (rest : List ℕ) → 2 * g .types ≤ n → Settled g (replicate n 0 ++ rest)
+pub cleared-settled : (g : Graph) (n : ℕ) (rest : List ℕ) → orderAt (g .types) ≤ n → Settled g (replicate n 0 ++ rest)
 cleared-settled g n rest h =
     blank-settled g (replicate n 0 ++ rest) (simp (length-append, length-replicate) (omega arith)) (λ v l. cleared-zero n rest v (omega arith))
 

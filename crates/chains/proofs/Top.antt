@@ -8,8 +8,8 @@ use native.Mathlib.Omega.{arith}
 use lib.ListN.{length, getD, set, take, drop, length-set, take-append-drop}
 use lib.Seq.{getD-take, getD-set-same, getD-set-other, drop-set-lt, length-take-le, ext-getD}
 use Rattle.chains.specs.Chains.{Graph}
-use Rattle.chains.specs.Answer.{Shaped, Settled, unentered, Forgotten, Answer}
-use Rattle.chains.specs.Search.{Ready, OnlyMarks, stored, Walked}
+use Rattle.chains.specs.Answer.{Shaped, Settled, unentered, Forgotten, CycleAnswered}
+use Rattle.chains.specs.Search.{MayWalk, OnlyMarks, stored, Walked}
 use Rattle.chains.proofs.Marks.{same-or-not, free-most, free-falls, unmarked-old, fail-only}
 use Rattle.chains.proofs.ForgetLaws.{other-mark}
 use Rattle.chains.proofs.Correct.{Good, no-cycle, first-cycle}
@@ -30,7 +30,7 @@ stored-all (f ∷ fs) [] = stored-nowhere 0 (f ∷ fs)
 stored-all (f ∷ fs) (x ∷ O) = ap (λ (P : List ℕ). set P 0 f) (stored-behind 0 x fs O) ∙ ap (λ (P : List ℕ). f ∷ P) (stored-all fs O)
 
 -- a marked type is settled, and has no cycle
-pub settled-answer : (g : Graph) (t : ℕ) (W : List ℕ) → Settled g W → t < g .types → getD W t 0 ≢ 0 → (O : List ℕ) → Answer g t O O 0
+pub settled-answer : (g : Graph) (t : ℕ) (W : List ℕ) → Settled g W → t < g .types → getD W t 0 ≢ 0 → (O : List ℕ) → CycleAnswered g t O O 0
 settled-answer g t W settled low n O =
     let two : getD W t 0 ≡ 2 = omega (arith, settled .marking .most t low, settled .calm t low) in
     record { fields = []; right = inr (settled .marking .none t low two, refl); count = refl; written = stored-all [] O }
@@ -50,7 +50,7 @@ module _ (g : Graph) (t k : ℕ) (W : List ℕ) (types : k ≡ g .types) (low : 
       λ f a b c. settled .marking .closed v f (g .next f) l two (record { low = a; high = b; leads = refl; type = c }) in
       inr (λ f a b c. (λ (e : g .next f ≡ t). let z = on f a b c in let y : getD W t 0 ≡ 2 = rw e at z in omega arith, λ z. omega (arith, on f a b c)))
 
-  pub top-ready : (rows : ℕ) → Shaped g rows → Ready g rows t 0 (set W t 1)
+  pub top-ready : (rows : ℕ) → Shaped g rows → MayWalk g rows t 0 (set W t 1)
   top-ready rows shaped =
       record {
         shaped = shaped;
@@ -69,7 +69,7 @@ module _ (g : Graph) (t k : ℕ) (W : List ℕ) (types : k ≡ g .types) (low : 
     top-only (inl m) = fail-only g t (m .fail)
     top-only (inr r) = r .only
 
-    pub top-answer : Walked g t t (g .start t) 0 (set W t 1) X O P n → Answer g t O P n
+    pub top-answer : Walked g t t (g .start t) 0 (set W t 1) X O P n → CycleAnswered g t O P n
     top-answer (inl m) =
         record {
           fields = [];

@@ -1,5 +1,4 @@
--- Every search ends, in a failure or a find. So a type of any graph has a first cycle or no cycle: `decided`. And a type with a
--- chain back to itself, however often that visits a type, has a first cycle: `returns-first`.
+-- Every search ends, in a failure or a find. So a type of any graph has a first cycle or no cycle: `decided`.
 -- The walk of a type's fields recurses on how many fields are left, and the walk of a type on how many types are left to enter.
 use mathlib.Core.Path.{_≡_, refl, _∙_}
 use mathlib.Core.Logic.{_⊎_, inl, inr, ⊎-elim, _≢_}
@@ -7,10 +6,11 @@ use mathlib.Core.List.{List, _∷_, []}
 use Prim.Native.Nat.{ℕ, suc, zero, _+_, _≤_, _<_}
 use native.Mathlib.Omega.{arith}
 use lib.ListN.{length, getD, set, length-set, replicate, length-replicate, getD-replicate}
-use Rattle.chains.specs.Chains.{Graph, PathTo, FirstCycle, NoCycle}
+use Rattle.chains.specs.Chains.{Graph, FirstCycle, NoCycle}
 use Rattle.chains.specs.Search.{free, Skipped, Opens, Fail, Fail.done, Fail.skip, Fail.enter, Find, Find.here, Find.below, Find.past, Find.later}
-use Rattle.chains.proofs.Marks.{same-or-not, below-or-not, free-le, free-falls}
+use Rattle.chains.proofs.Marks.{same-or-not, free-le, free-falls}
 use Rattle.chains.proofs.Correct.{Good, blank-good, fail-fresh, no-cycle, first-cycle}
+use Rattle.names.proofs.BoolLaws.{below-or-from}
 
 module _ (g : Graph) (t : ℕ) where
   abbrev Outcome : ℕ → ℕ → List ℕ → Type 0
@@ -60,7 +60,7 @@ module _ (g : Graph) (t : ℕ) where
       → (k s f : ℕ) (W : List ℕ) → g .types ≤ length W → free (g .types) W ≤ n → g .stop s ≤ f + k → Outcome s f W
   fields n walk zero s f W room h b = let l : g .stop s ≤ f = omega arith in inl (W, done l)
   fields n walk (suc k) s f W room h b =
-      one (below-or-not f (g .stop s)) (below-or-not (g .next f) (g .types)) (same-or-not (g .next f) t) (same-or-not (getD W (g .next f) 0) 0) room
+      one (below-or-from f (g .stop s)) (below-or-from (g .next f) (g .types)) (same-or-not (g .next f) t) (same-or-not (getD W (g .next f) 0) 0) room
       (λ l. walk (g .next f) (set W (g .next f) 1) (rw length-set room) (omega arith))
       (λ X e l. fields n walk k s (suc f) X (omega arith) (omega arith) (omega arith))
 
@@ -77,6 +77,3 @@ module _ (g : Graph) (t : ℕ) where
       (λ (r : (X : List ℕ) × Fail g t t (g .start t) (set Z t 1) X). inr (no-cycle g t Z good low room (r .1)))
       (λ (r : (fs : List ℕ) × Find g t t (g .start t) (set Z t 1) fs). inl (r .0, first-cycle g t Z good low room (r .1)))
       (total (suc (free (g .types) (set Z t 1))) t (set Z t 1) (rw (length-set, length-replicate) (omega arith)) (omega arith))
-
-  pub returns-first : t < g .types → (fs vs : List ℕ) → PathTo g t t fs vs → (gs : List ℕ) × FirstCycle g t gs
-  returns-first low fs vs p = ⊎-elim (λ r. r) (λ none. absurd (none fs vs p)) (decided low)

@@ -7,7 +7,7 @@ use native.Mathlib.Omega.{arith}
 use native.Mathlib.Numerals.{add-one}
 use lib.ListN.{length, getD, set, length-set}
 use Rattle.chains.specs.Chains.{Graph}
-use Rattle.chains.specs.Search.{free, Skipped, Opens, Ready, OnlyMarks, stored, Missed, Found, Walked}
+use Rattle.chains.specs.Search.{free, Skipped, Opens, MayWalk, OnlyMarks, stored, Missed, Arrived, Walked}
 use Rattle.chains.specs.Search.{Fail, Fail.done, Fail.skip, Fail.enter, Find, Find.here, Find.below, Find.past, Find.later}
 use Rattle.chains.proofs.Marks.{free-falls, only-none, only-enter, only-join, fail-only}
 use Rattle.chains.proofs.Total.{fail-free}
@@ -17,7 +17,7 @@ pub walked-from : (g : Graph) (t s f f′ depth : ℕ) (W X O P : List ℕ) (n :
 walked-from g t s f f′ depth W X O P n e w = subst (λ x. Walked g t s x depth W X O P n) e w
 
 -- a field of type s is a row
-pub in-row : {g : Graph} {rows s depth : ℕ} {W : List ℕ} → Ready g rows s depth W → (f : ℕ) → f < g .stop s → f < rows
+pub in-row : {g : Graph} {rows s depth : ℕ} {W : List ℕ} → MayWalk g rows s depth W → (f : ℕ) → f < g .stop s → f < rows
 in-row {s} ready f lt = omega (arith, ready .shaped .within s (ready .type))
 
 module _ (g : Graph) (t end first : ℕ) where
@@ -40,14 +40,14 @@ module _ (g : Graph) (t end first : ℕ) where
 
     module _ (u : ℕ) (to : u ≡ g .next f) where
       -- u is a type that was not entered, which the walk enters
-      module _ {rows s depth : ℕ} (ready : Ready g rows s depth W₀) (l : u < g .types) (n : u ≡ t → ⊥) (z : getD W u 0 ≡ 0) where
+      module _ {rows s depth : ℕ} (ready : MayWalk g rows s depth W₀) (l : u < g .types) (n : u ≡ t → ⊥) (z : getD W u 0 ≡ 0) where
         pub opens : Opens g t W f
         opens = record { type = rw to at l; room = omega (arith, ready .room, w .only .size); other = rw to at n; fresh = rw to at z }
 
         pub enter-falls : 2 * free (g .types) (set W u 1) + 1 < 2 * free (g .types) W₀
         enter-falls = omega (arith, w .left, free-falls (g .types) W u l (omega (arith, ready .room, w .only .size)) z)
 
-        pub enter-ready : Ready g rows u (depth + 1) (set W u 1)
+        pub enter-ready : MayWalk g rows u (depth + 1) (set W u 1)
         enter-ready =
             record {
               shaped = ready .shaped;
@@ -90,7 +90,7 @@ module _ (g : Graph) (t end first : ℕ) where
 
           -- the walk of u found a chain, and f is stored in front of it
           pub found-below : (s : ℕ) → g .stop s ≡ end → (O₀ O P Q : List ℕ) (n depth : ℕ) → O ≡ O₀ → Q ≡ set P depth f
-              → Found g t u (g .start u) (depth + 1) (set W u 1) X O P n → Found g t s first depth W₀ X O₀ Q n
+              → Arrived g t u (g .start u) (depth + 1) (set W u 1) X O P n → Arrived g t s first depth W₀ X O₀ Q n
           found-below s e O₀ O P Q n depth same h r =
               let next-word : P ≡ stored (suc depth) (r .fields) O₀ = rw (add-one, same) at (r .output) in
               record {
@@ -103,8 +103,8 @@ module _ (g : Graph) (t end first : ℕ) where
               }
 
         -- u is the target
-        pub found-here : (s : ℕ) → g .stop s ≡ end → {rows depth : ℕ} → Ready g rows s depth W₀ → u < g .types → u ≡ t → (O P : List ℕ)
-            → P ≡ set O depth f → Found g t s first depth W₀ W O P (depth + 1)
+        pub found-here : (s : ℕ) → g .stop s ≡ end → {rows depth : ℕ} → MayWalk g rows s depth W₀ → u < g .types → u ≡ t → (O P : List ℕ)
+            → P ≡ set O depth f → Arrived g t s first depth W₀ W O P (depth + 1)
         found-here s k {rows} {depth} ready l e O P h =
             record {
               fields = f ∷ [];

@@ -2,12 +2,13 @@
 use mathlib.Core.Path.{_≡_, refl}
 use mathlib.Core.Logic.{_⊎_, _≢_}
 use mathlib.Core.List.{List, [], _++_}
-use Prim.Native.Nat.{ℕ, zero, suc, _*_, _≤_, _<_}
-use lib.ListN.{length, getD, take, drop}
+use Prim.Native.Nat.{ℕ, zero, suc, _≤_, _<_}
+use lib.ListN.{length, take, drop}
 use Rattle.table.specs.declared.layout.Layout.{Layout}
 use Rattle.table.specs.Layout.{mostTypes, mostFields}
-use Rattle.order.specs.Order.{Helps}
+use Rattle.order.specs.Order.{Indexed}
 use Rattle.chains.specs.Chains.{Graph, Chain, FirstCycle, NoCycle}
+use Rattle.chains.specs.Work.{orderAt, markOf, freeMark, enteredMark, settledMark}
 
 -- the graph is within the limits, and the fields of each type are among the rows, so many as there are
 pub record Shaped (g : Graph) (rows : ℕ) : Type 0 where
@@ -15,23 +16,22 @@ pub record Shaped (g : Graph) (rows : ℕ) : Type 0 where
   pub fields : rows ≤ mostFields
   pub within : (s : ℕ) → s < g .types → g .stop s ≤ rows
 
--- the work words have two for each type, and behind these the order of the types, or nothing
+-- a table whose types can be looked up by the work words: these have marks and counts, and then the order of the types, or nothing
 pub record Helped (w : List ℕ) (l : Layout) (W : List ℕ) : Type 0 where
-  pub room : 2 * l .types ≤ length W
-  pub help : Helps w (l .types) (drop (2 * l .types) W)
+  pub room : orderAt (l .types) ≤ length W
+  pub indexed : Indexed w l (drop (orderAt (l .types)) W)
 
--- Word v is the mark of type v: 0 where it is not entered, 1 where a search has entered it, 2 where it is settled. No closed chain
--- runs through a settled type, and it leads to settled types only.
+-- Each type has one of the three marks. No closed chain runs through a settled type, and it leads to settled types only.
 pub record Marking (g : Graph) (W : List ℕ) : Type 0 where
-  pub room : 2 * g .types ≤ length W
-  pub most : (v : ℕ) → v < g .types → getD W v 0 ≤ 2
-  pub closed : (v f u : ℕ) → v < g .types → getD W v 0 ≡ 2 → Chain g v f u → getD W u 0 ≡ 2
-  pub none : (v : ℕ) → v < g .types → getD W v 0 ≡ 2 → NoCycle g v
+  pub room : orderAt (g .types) ≤ length W
+  pub most : (v : ℕ) → v < g .types → markOf W v ≤ settledMark
+  pub closed : (v f u : ℕ) → v < g .types → markOf W v ≡ settledMark → Chain g v f u → markOf W u ≡ settledMark
+  pub none : (v : ℕ) → v < g .types → markOf W v ≡ settledMark → NoCycle g v
 
 -- between searches no type is entered
 pub record Settled (g : Graph) (W : List ℕ) : Type 0 where
   pub marking : Marking g W
-  pub calm : (v : ℕ) → v < g .types → getD W v 0 ≢ 1
+  pub calm : (v : ℕ) → v < g .types → markOf W v ≢ enteredMark
 
 -- a mark, when those of a search are taken away
 abbrev pub unentered : ℕ → ℕ
@@ -39,12 +39,12 @@ unentered zero = zero
 unentered (suc zero) = zero
 unentered (suc (suc m)) = suc (suc m)
 
-three-marks : (unentered 0 ≡ 0) × (unentered 1 ≡ 0) × (unentered 2 ≡ 2)
+three-marks : (unentered freeMark ≡ freeMark) × (unentered enteredMark ≡ freeMark) × (unentered settledMark ≡ settledMark)
 three-marks = (refl, refl, refl)
 
 -- the marks of a search were taken away from the first n words
 pub record Forgotten (n : ℕ) (before after : List ℕ) : Type 0 where
-  pub marks : (v : ℕ) → v < n → getD after v 0 ≡ unentered (getD before v 0)
+  pub marks : (v : ℕ) → v < n → markOf after v ≡ unentered (markOf before v)
   pub size : length after ≡ length before
   pub rest : drop n after ≡ drop n before
 
@@ -59,7 +59,7 @@ pub record CycleCount (g : Graph) (t n : ℕ) : Type 0 where
   pub count : n ≡ length fields
 
 -- what a search of t answers: the count n, and the rows in order at the front of the output, as many as there is room for
-pub record Answer (g : Graph) (t : ℕ) (before after : List ℕ) (n : ℕ) : Type 0 where
+pub record CycleAnswered (g : Graph) (t : ℕ) (before after : List ℕ) (n : ℕ) : Type 0 where
   pub fields : List ℕ
   pub right : CycleRows g t fields
   pub count : n ≡ length fields

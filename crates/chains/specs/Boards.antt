@@ -6,29 +6,32 @@ use Prim.Native.Nat.{ℕ}
 use Rattle.names.specs.Count.{every}
 use Rattle.names.specs.Names.{startsName, continuesName, isName, before}
 use Rattle.names.specs.Wraps.{layers, bits, goodWrap}
-use Rattle.table.specs.Layout.{none, nameCount, typeCount, edgeCount, fieldCount, argumentCount, memberCount, valueCount, typesAt, edgesAt, fieldsAt, argumentsAt, membersAt, valuesAt, rootsAt, wordAt, startAt}
-use Rattle.table.specs.WellFormed.{inLimits, rightLength, nameGood, nameRises, namesRight, below, wrapsGood, endsGood, rootGood, rootsGood, typesGood, allEndsGood, fieldsGood, argumentsGood, listsGood, sectionsFit, fieldFits, fieldsFit, sectionsAllFit, fieldsAllFit, wordsGood, rowsGood, fresh, distinct, runDistinct, rowsDistinct, rowsAllDistinct, namesDistinct, refusalLaid, refusal}
+use Rattle.table.specs.Kinds.{inputObject, inputObjectKind}
+use Rattle.table.specs.Layout.{nameCount, typeCount, edgeCount, fieldCount, argumentCount, memberCount, valueCount, typesAt, edgesAt, fieldsAt, argumentsAt, membersAt, valuesAt, rootsAt, wordAt, startAt}
+use Rattle.wellformed.specs.WellFormed.{inLimits, rightLength, nameGood, nameRises, namesRight, below, wrapsGood, endsGood, rootGood, rootsGood, typesGood, allEndsGood, fieldsGood, argumentsGood, listsGood, sectionsFit, fieldFits, fieldsFit, sectionsAllFit, fieldsAllFit, wordsGood, rowsGood, fresh, distinct, runDistinct, rowsDistinct, rowsAllDistinct, namesDistinct, refusalLaid, refusal}
+use Rattle.table.specs.Tables.{nameRow, typeRow, fieldRow, noRoots, tableOf}
+use Rattle.chains.specs.Fields.{chainWrap}
 
 -- with every definition open
 computes : List ℕ → List ℕ → ℕ
-unfolding refusal refusalLaid inLimits rightLength nameGood nameRises namesRight below wrapsGood endsGood rootGood rootsGood typesGood allEndsGood fieldsGood argumentsGood listsGood sectionsFit fieldFits fieldsFit sectionsAllFit fieldsAllFit wordsGood rowsGood fresh distinct runDistinct rowsDistinct rowsAllDistinct namesDistinct every startsName continuesName isName before layers bits goodWrap nameCount typeCount edgeCount fieldCount argumentCount memberCount valueCount typesAt edgesAt fieldsAt argumentsAt membersAt valuesAt rootsAt wordAt startAt
+unfolding inputObjectKind refusal refusalLaid inLimits rightLength nameGood nameRises namesRight below wrapsGood endsGood rootGood rootsGood typesGood allEndsGood fieldsGood argumentsGood listsGood sectionsFit fieldFits fieldsFit sectionsAllFit fieldsAllFit wordsGood rowsGood fresh distinct runDistinct rowsDistinct rowsAllDistinct namesDistinct every startsName continuesName isName before layers bits goodWrap nameCount typeCount edgeCount fieldCount argumentCount memberCount valueCount typesAt edgesAt fieldsAt argumentsAt membersAt valuesAt rootsAt wordAt startAt
 computes text w = refusal text w
+
+-- a table of names, types and fields alone
+abbrev inputTable : (names types fields : List (List ℕ)) → List ℕ
+inputTable names types fields =
+    tableOf (record { names = names; types = types; edges = []; fields = fields; arguments = []; members = []; values = []; roots = noRoots })
 
 -- A{a: A!}, or with another wrap; the text is Aa
 abbrev pub oneText : List ℕ
 oneText = 65 ∷ 97 ∷ []
 
 abbrev pub oneWords : ℕ → List ℕ
-oneWords wrap =
-    2 ∷ 1 ∷ 0 ∷ 1 ∷ 0 ∷ 0 ∷ 0
-    ∷ 0 ∷ 1 ∷ 1 ∷ 1
-    ∷ 0 ∷ 5 ∷ 0 ∷ 0 ∷ 1 ∷ 0 ∷ 0
-    ∷ 1 ∷ 0 ∷ wrap ∷ 0 ∷ 0
-    ∷ none ∷ none ∷ none ∷ []
+oneWords wrap = inputTable (nameRow 0 1 ∷ nameRow 1 1 ∷ []) (typeRow 0 inputObject 0 0 1 0 0 ∷ []) (fieldRow 1 0 wrap 0 0 ∷ [])
 
 -- A{a: A!}
 abbrev pub selfWords : List ℕ
-selfWords = oneWords 16
+selfWords = oneWords chainWrap
 
 self-good : refusal oneText selfWords ≡ 0
 unfolding computes
@@ -56,13 +59,10 @@ twoText = 65 ∷ 66 ∷ 97 ∷ 98 ∷ []
 
 abbrev pub twoWords : (aName aType bName bType : ℕ) → List ℕ
 twoWords aName aType bName bType =
-    4 ∷ 2 ∷ 0 ∷ 2 ∷ 0 ∷ 0 ∷ 0
-    ∷ 0 ∷ 1 ∷ 1 ∷ 1 ∷ 2 ∷ 1 ∷ 3 ∷ 1
-    ∷ 0 ∷ 5 ∷ 0 ∷ 0 ∷ 1 ∷ 0 ∷ 0
-    ∷ 1 ∷ 5 ∷ 0 ∷ 0 ∷ 2 ∷ 0 ∷ 0
-    ∷ aName ∷ aType ∷ 16 ∷ 0 ∷ 0
-    ∷ bName ∷ bType ∷ 16 ∷ 0 ∷ 0
-    ∷ none ∷ none ∷ none ∷ []
+    inputTable
+    (nameRow 0 1 ∷ nameRow 1 1 ∷ nameRow 2 1 ∷ nameRow 3 1 ∷ [])
+    (typeRow 0 inputObject 0 0 1 0 0 ∷ typeRow 1 inputObject 0 0 2 0 0 ∷ [])
+    (fieldRow aName aType chainWrap 0 0 ∷ fieldRow bName bType chainWrap 0 0 ∷ [])
 
 -- A{b: B!} B{b: B!}
 abbrev pub tailWords : List ℕ

@@ -4,14 +4,10 @@ use mathlib.Core.Bool.{Bool, true, _&&_, cond}
 use mathlib.Core.List.{List}
 use Prim.Native.Nat.{ℕ, _≤_, _<_}
 use lib.Dec.{eqb}
-use Rattle.table.specs.Kinds.{inputObject}
+use Rattle.table.specs.Kinds.{inputObjectKind}
 use Rattle.table.specs.Layout.{typeCount, typeName, typeKind, fieldsStart, fieldsEnd, fieldType, fieldWrap}
 use Rattle.rows.specs.Types.{typeNamed, defined, kindNamed}
 use Rattle.chains.specs.Chains.{Graph}
-
--- the kind of input objects
-unfoldable pub inputObjectKind : ℕ → Bool
-inputObjectKind k = eqb k inputObject
 
 -- the wrap of a chain field, 16: non-null, and no list
 abbrev pub chainWrap : ℕ

@@ -3,13 +3,12 @@ ghost use mathlib.Core.Path.{_≡_};
 ghost use mathlib.Core.List.{_++_};
 ghost use Prim.Native.Nat.{_≤_, _<_};
 ghost use lib.ListN.{length, drop, replicate};
-ghost use Rattle.rows.specs.Readable.{SoundRows};
 ghost use Rattle.chains.specs.Fields.{chainGraph};
-ghost use Rattle.chains.specs.Answer.{Helped, Settled, Answer, Forgotten};
-use crate::walk::ENTERED;
+ghost use Rattle.chains.specs.Answer.{Helped, Settled, CycleAnswered, Forgotten};
 use crate::walk::walk_type;
-use rows::numbers::TypeRow;
+use crate::work::Mark;
 use table::layout::Layout;
+use table::numbers::TypeRow;
 
 // Sets the first n words to 0.
 pub fn clear(work: &mut [u32], n: usize)
@@ -30,8 +29,8 @@ pub fn forget(work: &mut [u32], n: usize)
 {
     let mut i = 0;
     while i < n {
-        if work[i] == ENTERED {
-            work[i] = 0;
+        if work[i] == Mark::ENTERED.0 {
+            work[i] = Mark::FREE.0;
         }
         i += 1;
     }
@@ -40,19 +39,18 @@ pub fn forget(work: &mut [u32], n: usize)
 // The number of fields of the first cycle of type t, whose rows are written to out in order, as many as there is room for; 0 where
 // t has no cycle. A settled type has none, and is not entered. The work words are left as they were.
 pub fn first_cycle(words: &[u32], l: Layout, t: TypeRow, work: &mut [u32], out: &mut [u32]) -> usize
-    requires { ⌜ SoundRows (now words) l ⌝ }
+    requires { ⌜ Helped (now words) l (now work) ⌝ }
     requires { ⌜ t .0 < l .types ⌝ }
     requires { ⌜ Settled (chainGraph (now words)) (now work) ⌝ }
-    requires { ⌜ Helped (now words) l (now work) ⌝ }
-    ensures { λ n. ⌜ Answer (chainGraph (now (words .entry))) (t .0) (now (out .entry)) (now (out .exit)) n ⌝ }
+    ensures { λ n. ⌜ CycleAnswered (chainGraph (now (words .entry))) (t .0) (now (out .entry)) (now (out .exit)) n ⌝ }
     ensures { λ n. ⌜ n ≤ l .types ⌝ }
     ensures { λ n. ⌜ now (work .exit) ≡ now (work .entry) ⌝ }
 {
     let row = t.0 as usize;
-    if work[row] != 0 {
+    if work[row] != Mark::FREE.0 {
         return 0;
     }
-    work[row] = ENTERED;
+    work[row] = Mark::ENTERED.0;
     let n = walk_type(words, l, t, t, 0, work, out);
     forget(work, l.types);
     n

@@ -12,3 +12,4 @@ pub mod cycle;
 pub mod fields;
 pub mod settle;
 pub mod walk;
+pub mod work;

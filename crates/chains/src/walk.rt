@@ -2,18 +2,17 @@
 ghost use mathlib.Core.Path.{_≡_};
 ghost use Prim.Native.Nat.{_<_};
 ghost use lib.ListN.{set};
-ghost use Rattle.table.specs.Layout.{Laid, fieldsStart, mostFields};
+ghost use Rattle.table.specs.Layout.{fieldsStart, mostFields};
 ghost use Rattle.chains.specs.Fields.{chainGraph};
 ghost use Rattle.chains.specs.Answer.{Helped};
-ghost use Rattle.chains.specs.Search.{Ready, Walked};
+ghost use Rattle.chains.specs.Search.{MayWalk, Walked};
 use crate::fields::chains_end;
 use crate::fields::target_by;
-use rows::numbers::TypeRow;
+use crate::work::Mark;
 use rows::parts::fields_start;
+use rows::types::FoundType;
 use table::layout::Layout;
-
-// The mark of a type that a search has entered.
-pub const ENTERED: u32 = 1;
+use table::numbers::TypeRow;
 
 // Stores a field's row where there is room.
 fn store(out: &mut [u32], at: usize, f: usize)
@@ -36,9 +35,8 @@ pub fn walk_type(
     work: &mut [u32],
     out: &mut [u32],
 ) -> usize
-    requires { ⌜ Laid (now words) l ⌝ }
-    requires { ⌜ Ready (chainGraph (now words)) (l .fields) (s .0) depth (now work) ⌝ }
     requires { ⌜ Helped (now words) l (now work) ⌝ }
+    requires { ⌜ MayWalk (chainGraph (now words)) (l .fields) (s .0) depth (now work) ⌝ }
     ensures { λ n. ⌜ Walked (chainGraph (now (words .entry))) (t .0) (s .0) (fieldsStart (now (words .entry)) (s .0)) depth (now (work .entry)) (now (work .exit)) (now (out .entry)) (now (out .exit)) n ⌝ }
 {
     walk_fields(words, l, t, s, fields_start(words, l, s), depth, work, out)
@@ -55,25 +53,22 @@ fn walk_fields(
     work: &mut [u32],
     out: &mut [u32],
 ) -> usize
-    requires { ⌜ Laid (now words) l ⌝ }
-    requires { ⌜ Ready (chainGraph (now words)) (l .fields) (s .0) depth (now work) ⌝ }
     requires { ⌜ Helped (now words) l (now work) ⌝ }
+    requires { ⌜ MayWalk (chainGraph (now words)) (l .fields) (s .0) depth (now work) ⌝ }
     ensures { λ n. ⌜ Walked (chainGraph (now (words .entry))) (t .0) (s .0) first depth (now (work .entry)) (now (work .exit)) (now (out .entry)) (now (out .exit)) n ⌝ }
 {
-    let types = l.types;
     let end = chains_end(words, l, s);
     let mut f = first;
     while f < end {
-        let u = target_by(words, l, work, f);
-        if u < types {
-            if u == t.0 as usize {
+        if let FoundType::At(u) = target_by(words, l, work, f) {
+            if u.same(t) {
                 store(out, depth, f);
                 return depth + 1;
             }
-            if work[u] == 0 {
-                work[u] = ENTERED;
-                let next = TypeRow(u as u32);
-                let n = walk_type(words, l, t, next, depth + 1, work, out);
+            let row = u.0 as usize;
+            if work[row] == Mark::FREE.0 {
+                work[row] = Mark::ENTERED.0;
+                let n = walk_type(words, l, t, u, depth + 1, work, out);
                 if n != 0 {
                     store(out, depth, f);
                     return n;

@@ -13,11 +13,11 @@ use Rattle.evidence.specs.Words.{leader, outField, inField}
 use Rattle.evidence.specs.Rules.{Passes}
 use Rattle.evidence.specs.Reaches.{Reaches}
 use Rattle.evidence.specs.Canonical.{Count, Least, Way, Way.here, Other, On, Off, Marks, Marks.on, Marks.off, Canonical}
-use Rattle.evidence.proofs.TestLaws.{same-or-not}
 use Rattle.evidence.proofs.Kept.{Marked, Lower, Kept, keeps, out-at, in-at}
 use Rattle.evidence.proofs.Marks.{reach-one, reach-more, reach-join, reach-end}
 use Rattle.evidence.proofs.Counts.{count-le, count-lt, count-below, count-back}
 use Rattle.evidence.proofs.Ways.{way-zero, same-lowest}
+use Rattle.chains.proofs.Marks.{same-or-not}
 
 -- only input objects have chain fields
 abbrev pub Inputs : Graph → (ℕ → Bool) → Type 0

@@ -9,9 +9,9 @@ use lib.Dec.{leb, ltb, eqb}
 use borrow.Author.Tests.{lt-ltb, le-ltb}
 use Rattle.names.proofs.BoolLaws.{decide, and-true, and-false}
 use Rattle.table.specs.declared.layout.Layout.{Layout}
-use Rattle.table.specs.Layout.{typeCount, fieldCount, fieldsStart, fieldsEnd, startAt}
-use Rattle.table.specs.Sound.{Sound}
-use Rattle.rows.specs.declared.numbers.TypeRow.{TypeRow}
+use Rattle.table.specs.Layout.{typeCount, fieldCount, mostTypes, mostFields, fieldsStart, fieldsEnd, startAt}
+use Rattle.wellformed.specs.Sound.{Sound}
+use Rattle.table.specs.declared.numbers.TypeRow.{TypeRow}
 use Rattle.rows.specs.declared.types.FoundType.{FoundType}
 use Rattle.rows.specs.declared.types.FoundType.the-variants.{At, Nothing}
 use Rattle.rows.specs.Types.{foundAt}
@@ -22,7 +22,7 @@ use Rattle.chains.specs.Fields.{isInputObject, chainsEnd, chainGraph}
 use Rattle.chains.proofs.FieldLaws.{chain-field, field-chain}
 use Rattle.evidence.specs.Rules.{nearer, chainField, comesIn}
 use Rattle.evidence.specs.Reaches.{Reaches, FieldsTo, FieldsTo.last, FieldsTo.step}
-use Rattle.evidence.specs.Chained.{Chained, chainTo}
+use Rattle.evidence.specs.ChainTo.{chainTo}
 use Rattle.evidence.proofs.Marks.{reach-one, reach-more}
 use Rattle.evidence.proofs.CanonicalPasses.{Inputs}
 
@@ -41,13 +41,24 @@ module _ (w : List ℕ) (t : ℕ) where
   unfolding startAt
   next-start = refl
 
--- a table with its layout
+-- the fields of a type come before those of the next
+pub record Rising (g : Graph) : Type 0 where
+  pub ends : (t : ℕ) → t < g .types → g .stop t ≤ g .start (suc t)
+  pub rises : (t : ℕ) → t < g .types → g .start t ≤ g .start (suc t)
+
+-- what is known of the chain fields of a table with its layout
+pub record Chained (w : List ℕ) (l : Layout) : Type 0 where
+  pub types : l .types ≡ typeCount w
+  pub types-few : l .types ≤ mostTypes
+  pub fields-few : l .fields ≤ mostFields
+  pub inside : (t : ℕ) → t < l .types → chainsEnd w t ≤ l .fields
+  pub rising : Rising (chainGraph w)
+
 pub chained : {w : List ℕ} {l : Layout} → SoundRows w l → Chained w l
 chained {w} {l} s =
     let e : l .types ≡ typeCount w = ap (λ (x : Layout). x .types) (s .laid .same) in
     let f : l .fields ≡ fieldCount w = ap (λ (x : Layout). x .fields) (s .laid .same) in
     record {
-      sound = s;
       types = e;
       types-few = s .laid .types-most;
       fields-few = s .laid .fields-most;
@@ -119,7 +130,7 @@ module _ (g : Graph) (t f : ℕ) where
   pub not-led : (r : FoundType) → r ≡ chainTo g t f → r ≡ Nothing → chainField g t f ≡ false
   not-led r e a = led-nothing (sym e ∙ a)
 
--- what an answer of `led_to` says
+-- what an answer of `target` says
 module _ (x n m : ℕ) (same : m ≡ n) (r : FoundType) (e : r ≡ foundAt x m) where
   -- the type that a field leads to is u
   pub record Leads (u : TypeRow) : Type 0 where

@@ -10,10 +10,12 @@ use Rattle.chains.specs.Chains.{Graph, Chain, PathTo, PathTo.last, PathTo.step}
 use Rattle.evidence.specs.Rules.{chainField}
 use Rattle.evidence.specs.Reaches.{Reaches}
 use Rattle.evidence.specs.Canonical.{Count, Count.empty, Count.with, Count.without, Least, Way, Way.here, Way.more, Other, Mutual}
-use Rattle.evidence.proofs.TestLaws.{same-or-not, below-or-not, last-or-below}
+use Rattle.evidence.proofs.TestLaws.{last-or-below}
 use Rattle.evidence.proofs.Kept.{chain-at, chain-true}
 use Rattle.evidence.proofs.Marks.{reach-one, reach-join}
 use Rattle.evidence.proofs.Ways.{way-zero}
+use Rattle.names.proofs.BoolLaws.{below-or-from}
+use Rattle.chains.proofs.Marks.{same-or-not}
 
 -- P or not P
 abbrev pub Decided : Type 0 → Type 0
@@ -51,7 +53,7 @@ module _ (P : ℕ → Type 0) (decide : (k : ℕ) → Decided (P k)) where
 
   -- the search for the least
   found : (k : ℕ) → ((i : ℕ) → i < k → P i → ⊥) → P k → (m : ℕ) × Least P m
-  found k before p = (k, record { holds = p; least = λ m q. ⊎-elim (λ l. absurd (before m l q)) (λ (l : k ≤ m). l) (below-or-not m k) })
+  found k before p = (k, record { holds = p; least = λ m q. ⊎-elim (λ l. absurd (before m l q)) (λ (l : k ≤ m). l) (below-or-from m k) })
 
   least-from : (d k : ℕ) → ((i : ℕ) → i < k → P i → ⊥) → P (k + d) → (m : ℕ) × Least P m
   least-from zero k before p = let e : k + 0 ≡ k = omega arith in found k before (subst P e p)

@@ -5,16 +5,16 @@ use mathlib.Core.List.{List}
 use Prim.Native.Nat.{ℕ, _≤_, _<_}
 use native.Mathlib.Omega.{arith}
 use Rattle.table.specs.Layout.{none, typeCount}
-use Rattle.table.specs.Sound.{Sound}
+use Rattle.wellformed.specs.Sound.{Sound}
 use Rattle.chains.specs.Fields.{isInputObject, chainGraph}
 use Rattle.evidence.specs.declared.judged.Judged.{Judged}
 use Rattle.evidence.specs.declared.judged.Judged.the-variants.{Pass, Broken}
-use Rattle.evidence.specs.Verdict.{KeepsRules, judgedOf, FirstBroken}
+use Rattle.evidence.specs.Judged.{KeepsRules, judgedOf, FirstBroken}
 use Rattle.evidence.specs.Reaches.{OnClosedChain, FieldsTo}
 use Rattle.evidence.specs.Canonical.{Canonical}
 use Rattle.evidence.proofs.Kept.{Marked}
 use Rattle.evidence.proofs.Marks.{marks-right}
-use Rattle.evidence.proofs.Verdicts.{passes-judged, broken-judged}
+use Rattle.evidence.proofs.JudgedLaws.{passes-judged, broken-judged}
 use Rattle.evidence.proofs.Unique.{canonical-unique}
 use Rattle.evidence.proofs.CanonicalPasses.{canonical-passes}
 use Rattle.evidence.proofs.Exists.{evidence, evidence-canonical}

@@ -15,13 +15,15 @@ use Rattle.evidence.specs.Words.{evidenceWords, number, leader, outField
 use Rattle.evidence.specs.Rules.{any, goesOut, comesIn}
 use Rattle.evidence.specs.Reaches.{Reaches, OnClosedChain}
 use Rattle.evidence.specs.Canonical.{Count, Least, Way, Way.here, Way.more, Other, Mutual, Marks, Marks.on, Marks.off, Canonical}
-use Rattle.evidence.proofs.TestLaws.{same-or-not, below-or-not, last-or-below}
+use Rattle.evidence.proofs.TestLaws.{last-or-below}
 use Rattle.evidence.proofs.Kept.{Out, In, out-true, in-true}
 use Rattle.evidence.proofs.Marks.{reach-one, reach-join, reach-end}
 use Rattle.evidence.proofs.Counts.{least-as}
 use Rattle.evidence.proofs.Ways.{way-reaches, reaches-way, way-last, way-snoc, same-lowest}
 use Rattle.evidence.proofs.Unique.{Agree, agree-back, goes-same, comes-same}
 use Rattle.evidence.proofs.Decide.{is-true, way-first, least-of, count-of, reaches-decided, mutual-decided, other-decided, way-decided}
+use Rattle.names.proofs.BoolLaws.{below-or-from}
+use Rattle.chains.proofs.Marks.{same-or-not}
 
 -- the words of a row
 record Words : Type 0 where
@@ -237,7 +239,7 @@ module _ (g : Graph) where
 
   -- the lowest out field
   choose-out : (t : ℕ) → (o : ℕ) × (Half first t → t < g .types → Least (λ f. goesOut g first t f ≡ true) o)
-  choose-out t = ⊎-elim some (λ n. (0, λ h l. absurd (omega arith))) (below-or-not t (g .types))
+  choose-out t = ⊎-elim some (λ n. (0, λ h l. absurd (omega arith))) (below-or-from t (g .types))
     where
       some : t < g .types → (o : ℕ) × (Half first t → t < g .types → Least (λ f. goesOut g first t f ≡ true) o)
       some l =
@@ -255,7 +257,7 @@ module _ (g : Graph) where
 
   -- the lowest in field
   choose-in : (t : ℕ) → (i : ℕ) × (Half first t → t < g .types → Chosen t i)
-  choose-in t = ⊎-elim some (λ n. (0, λ h l. absurd (omega arith))) (below-or-not t (g .types))
+  choose-in t = ⊎-elim some (λ n. (0, λ h l. absurd (omega arith))) (below-or-from t (g .types))
     where
       other : Half first t → leader first t ≢ t → (i : ℕ) × Chosen t i
       other h n =

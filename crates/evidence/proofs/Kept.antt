@@ -12,7 +12,8 @@ use Rattle.evidence.specs.Words.{number, leader, outField, outDistance, 
 use Rattle.evidence.specs.Rules.{implies, any, nearer, chainField, goesOut, comesIn, falls, rule1, rule2, rule3, rule4, rule5, rule6, rule7, lowest}
 use Rattle.names.proofs.BoolLaws.{and-left, and-right, and-true, and3, and4, or-cases, or-true}
 use Rattle.names.proofs.CountLaws.{every-at, every-intro}
-use Rattle.evidence.proofs.TestLaws.{or-first, or-else, implies-at, implies-of, same-eq, eq-same, unless-true, unless-rest, same-or-not, any-at, any-of}
+use Rattle.evidence.proofs.TestLaws.{or-first, or-else, implies-at, implies-of, same-eq, eq-same, unless-true, unless-rest, any-at, any-of}
+use Rattle.chains.proofs.Marks.{same-or-not}
 
 -- marked, as a statement: leader isn't NONE
 abbrev pub Marked : List ℕ → ℕ → Type 0

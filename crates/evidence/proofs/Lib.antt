@@ -1,7 +1,7 @@
 pub mod TestLaws
 pub mod Kept
 pub mod Marks
-pub mod Verdicts
+pub mod JudgedLaws
 pub mod Counts
 pub mod Ways
 pub mod Unique

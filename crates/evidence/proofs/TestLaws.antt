@@ -1,15 +1,13 @@
 -- Laws of the tests that the rules are made of, beside those of the crate names.
 use mathlib.Core.Path.{_≡_, refl, sym}
-use mathlib.Core.Logic.{_⊎_, inl, inr, ⊎-elim, _≢_}
+use mathlib.Core.Logic.{_⊎_, ⊎-elim}
 use mathlib.Core.Bool.{Bool, true, false, _||_, Bool·beq, false≢true}
 use Prim.Native.Nat.{ℕ, suc, zero, _+_, _≤_, _<_}
 use native.Mathlib.Omega.{arith}
 use native.Mathlib.Nat.{eq-or-lt-of-le, le-of-suc-le-suc}
 use native.Mathlib.Numerals.{add-one}
-use lib.Dec.{ltb, eqb}
-use borrow.Author.Tests.{ltb-true, ltb-false, eqb-true, eqb-false}
 use Rattle.names.proofs.BoolLaws.{or-cases, or-true}
-use Rattle.table.specs.WellFormed.{unless}
+use Rattle.wellformed.specs.WellFormed.{unless}
 use Rattle.evidence.specs.Rules.{implies, any}
 
 -- a disjunction by its first test, and by the second where the first fails
@@ -51,21 +49,6 @@ unless-true false k n h = absurd (omega arith)
 pub unless-rest : (a : Bool) (k n : ℕ) → unless a (suc k) n ≡ 0 → n ≡ 0
 unless-rest true k n h = h
 unless-rest false k n h = absurd (omega arith)
-
--- numbers are compared
-pub same-or-not : (a b : ℕ) → (a ≡ b) ⊎ (a ≢ b)
-same-or-not a b = go (eqb a b) refl
-  where
-    go : (t : Bool) → eqb a b ≡ t → (a ≡ b) ⊎ (a ≢ b)
-    go true e = inl (eqb-true a b e)
-    go false e = inr (eqb-false a b e)
-
-pub below-or-not : (a b : ℕ) → (a < b) ⊎ (b ≤ a)
-below-or-not a b = go (ltb a b) refl
-  where
-    go : (t : Bool) → ltb a b ≡ t → (a < b) ⊎ (b ≤ a)
-    go true e = inl (ltb-true a b e)
-    go false e = inr (ltb-false a b e)
 
 -- the last number below suc n, or one below n
 pub last-or-below : {k n : ℕ} → k < suc n → (k ≡ n) ⊎ (k < n)

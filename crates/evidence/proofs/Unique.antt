@@ -12,9 +12,9 @@ use Rattle.chains.specs.Chains.{Graph}
 use Rattle.evidence.specs.Words.{evidenceWords, leader, outField, outDistance, inField, inDepth}
 use Rattle.evidence.specs.Rules.{any, goesOut, comesIn}
 use Rattle.evidence.specs.Canonical.{Way, On, Marks, Marks.on, Marks.off, Canonical}
-use Rattle.evidence.proofs.TestLaws.{same-or-not}
 use Rattle.evidence.proofs.Kept.{Out, In, out-at, out-true, in-at, in-true}
 use Rattle.evidence.proofs.Counts.{least-unique, count-unique}
+use Rattle.chains.proofs.Marks.{same-or-not}
 
 -- what holds of the six words of every row below n holds of every word
 pub each-word : (P : ℕ → Type 0) (n : ℕ)

@@ -36,11 +36,6 @@ module _ (g : Graph) where
   way-snoc here c = more c here
   way-snoc (more d w) c = more d (way-snoc w c)
 
-  -- where a chain ends is a type
-  pub way-end : {t u n : ℕ} → Way g u n t → t < g .types → u < g .types
-  way-end here l = l
-  way-end (more c w) l = way-end w (c .type)
-
   -- reaching each other is symmetric and goes on
   pub mutual-sym : {t u : ℕ} → Mutual g t u → Mutual g u t
   mutual-sym m = (m .1, m .0)

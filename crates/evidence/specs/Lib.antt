@@ -1,7 +1,7 @@
 pub mod Words
 pub mod Rules
-pub mod Verdict
+pub mod Judged
 pub mod Reaches
 pub mod Canonical
-pub mod Chained
+pub mod ChainTo
 pub mod Examples

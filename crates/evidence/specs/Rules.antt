@@ -6,7 +6,7 @@ use Prim.Native.Nat.{ℕ, suc, zero, _+_, _<_}
 use lib.Dec.{leb, ltb, eqb}
 use Rattle.names.specs.Count.{every}
 use Rattle.table.specs.Layout.{none}
-use Rattle.table.specs.WellFormed.{unless}
+use Rattle.wellformed.specs.WellFormed.{unless}
 use Rattle.chains.specs.Chains.{Graph}
 use Rattle.evidence.specs.Words.{number, leader, outField, outDistance, inField, inDepth, marked, leads}
 

@@ -5,15 +5,15 @@ use Prim.Native.Nat.{ℕ, _+_, _*_}
 use lib.ListN.{getD}
 use lib.Dec.{eqb}
 use Rattle.table.specs.Layout.{none}
-use Rattle.evidence.specs.declared.row.EvidenceWord.{EvidenceWord}
-use Rattle.evidence.specs.declared.row.EvidenceWord.the-variants.{Number, Leader, OutField, OutDistance, InField, InDepth}
+use Rattle.evidence.specs.declared.row.EvidenceColumn.{EvidenceColumn}
+use Rattle.evidence.specs.declared.row.EvidenceColumn.the-variants.{Number, Leader, OutField, OutDistance, InField, InDepth}
 
 -- six words per type
 abbrev pub evidenceWords : ℕ
 evidenceWords = 6
 
 -- in this order: number, leader, out field, out distance, in field, in depth
-abbrev pub placeOf : EvidenceWord → ℕ
+abbrev pub placeOf : EvidenceColumn → ℕ
 placeOf Number = 0
 placeOf Leader = 1
 placeOf OutField = 2
@@ -22,7 +22,7 @@ placeOf InField = 4
 placeOf InDepth = 5
 
 -- a word of row t
-abbrev pub wordOf : List ℕ → ℕ → EvidenceWord → ℕ
+abbrev pub wordOf : List ℕ → ℕ → EvidenceColumn → ℕ
 wordOf ev t k = getD ev (evidenceWords * t + placeOf k) 0
 
 module _ (ev : List ℕ) (t : ℕ) where

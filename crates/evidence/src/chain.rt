@@ -1,41 +1,25 @@
 // The chain fields of a type, and what rules 5 and 6 ask of one.
 ghost use mathlib.Core.Path.{_≡_};
 ghost use Prim.Native.Nat.{_<_};
-ghost use Rattle.rows.specs.Types.{foundAt};
-ghost use Rattle.order.specs.Order.{Helps};
-ghost use Rattle.chains.specs.Fields.{chainTarget, chainGraph};
+ghost use Rattle.order.specs.Order.{Indexed};
+ghost use Rattle.chains.specs.Fields.{chainGraph};
 ghost use Rattle.evidence.specs.Rules.{goesOut, nearer, comesIn};
-ghost use Rattle.evidence.specs.Chained.{Chained, chainTo};
+ghost use Rattle.evidence.specs.ChainTo.{chainTo};
 use crate::row::in_depth;
 use crate::row::leader;
 use crate::row::leads;
 use crate::row::out_distance;
 use chains::fields::chains_end;
 use chains::fields::target;
-use rows::numbers::TypeRow;
 use rows::parts::fields_start;
 use rows::types::FoundType;
 use table::layout::Layout;
-
-// The type that a field leads to, where it leads to one.
-pub fn led_to(words: &[u32], l: Layout, order: &[u32], f: usize) -> FoundType
-    requires { ⌜ Chained (now words) l ⌝ }
-    requires { ⌜ f < l .fields ⌝ }
-    requires { ⌜ Helps (now words) (l .types) (now order) ⌝ }
-    ensures { λ r. ⌜ r ≡ foundAt (chainTarget (now (words .entry)) f) (l .types) ⌝ }
-{
-    let u = target(words, l, order, f);
-    if u < l.types {
-        return FoundType::At(TypeRow(u as u32));
-    }
-    FoundType::Nothing
-}
+use table::numbers::TypeRow;
 
 // The type that field f leads to as a chain field of t, where it is one. The field may be any number.
-pub fn chain_to(words: &[u32], l: Layout, order: &[u32], t: TypeRow, f: usize) -> FoundType
-    requires { ⌜ Chained (now words) l ⌝ }
+fn chain_to(words: &[u32], l: Layout, order: &[u32], t: TypeRow, f: usize) -> FoundType
+    requires { ⌜ Indexed (now words) l (now order) ⌝ }
     requires { ⌜ t .0 < l .types ⌝ }
-    requires { ⌜ Helps (now words) (l .types) (now order) ⌝ }
     ensures { λ r. ⌜ r ≡ chainTo (chainGraph (now (words .entry))) (t .0) f ⌝ }
 {
     if f < fields_start(words, l, t) {
@@ -44,20 +28,19 @@ pub fn chain_to(words: &[u32], l: Layout, order: &[u32], t: TypeRow, f: usize) -
     if chains_end(words, l, t) <= f {
         return FoundType::Nothing;
     }
-    led_to(words, l, order, f)
+    target(words, l, order, f)
 }
 
 // Rule 5 of a field f.
 pub fn goes_out(words: &[u32], l: Layout, order: &[u32], ev: &[u32], t: TypeRow, f: usize) -> bool
-    requires { ⌜ Chained (now words) l ⌝ }
+    requires { ⌜ Indexed (now words) l (now order) ⌝ }
     requires { ⌜ t .0 < l .types ⌝ }
-    requires { ⌜ Helps (now words) (l .types) (now order) ⌝ }
     ensures { λ r. ⌜ r ≡ goesOut (chainGraph (now (words .entry))) (now (ev .entry)) (t .0) f ⌝ }
 {
     let FoundType::At(u) = chain_to(words, l, order, t, f) else {
         return false;
     };
-    (leader(ev, u).0 == leader(ev, t).0)
+    leader(ev, u).same(leader(ev, t))
         & (leads(ev, t) | (out_distance(ev, u) + 1 == out_distance(ev, t)))
 }
 
@@ -65,7 +48,7 @@ pub fn goes_out(words: &[u32], l: Layout, order: &[u32], ev: &[u32], t: TypeRow,
 pub fn nearer(ev: &[u32], t: TypeRow, s: TypeRow) -> bool
     ensures { λ r. ⌜ r ≡ nearer (now (ev .entry)) (t .0) (s .0) ⌝ }
 {
-    (leader(ev, s).0 == leader(ev, t).0) & (in_depth(ev, s) + 1 == in_depth(ev, t))
+    leader(ev, s).same(leader(ev, t)) & (in_depth(ev, s) + 1 == in_depth(ev, t))
 }
 
 // Rule 6 of a field f of type s. The words of the two rows are looked at first, since the field's type is a search by name.
@@ -78,9 +61,8 @@ pub fn comes_in(
     f: usize,
     s: TypeRow,
 ) -> bool
-    requires { ⌜ Chained (now words) l ⌝ }
+    requires { ⌜ Indexed (now words) l (now order) ⌝ }
     requires { ⌜ s .0 < l .types ⌝ }
-    requires { ⌜ Helps (now words) (l .types) (now order) ⌝ }
     ensures { λ r. ⌜ r ≡ comesIn (chainGraph (now (words .entry))) (now (ev .entry)) (t .0) f (s .0) ⌝ }
 {
     if !nearer(ev, t, s) {
@@ -89,5 +71,5 @@ pub fn comes_in(
     let FoundType::At(u) = chain_to(words, l, order, s, f) else {
         return false;
     };
-    u.0 == t.0
+    u.same(t)
 }

@@ -1,5 +1,5 @@
 // The answer of the judge.
-use rows::numbers::TypeRow;
+use table::numbers::TypeRow;
 
 // The evidence passes, or this is the first type row that breaks a rule, with its lowest rule.
 pub enum Judged {

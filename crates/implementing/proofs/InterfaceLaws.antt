@@ -7,7 +7,7 @@ use Prim.Native.Nat.{ℕ, _<_}
 use native.Mathlib.Omega.{arith}
 use lib.Dec.{eqb}
 use borrow.Author.Tests.{ltb-true}
-use Rattle.rows.specs.declared.numbers.TypeRow.{TypeRow}
+use Rattle.table.specs.declared.numbers.TypeRow.{TypeRow}
 use Rattle.table.specs.declared.layout.Layout.{Layout}
 use Rattle.table.specs.Kinds.{interface}
 use Rattle.table.specs.Layout.{Laid, typeCount}
@@ -15,10 +15,10 @@ use Rattle.names.proofs.BoolLaws.{decide, and-left}
 use Rattle.rows.specs.declared.types.FoundType.{FoundType}
 use Rattle.rows.specs.declared.types.FoundType.the-variants.{At, Nothing}
 use Rattle.rows.specs.Types.{isInterface, defined, typeNamed, kindNamed}
-use Rattle.implementing.specs.Interfaces.{foundInterface}
+use Rattle.implementing.specs.Rules.{foundInterface}
 
 -- what is known where it answered At j: the name is an interface's, and j is its row
-pub record Interface (w : List ℕ) (l : Layout) (n : ℕ) (j : TypeRow) : Type 0 where
+pub record InterfaceAt (w : List ℕ) (l : Layout) (n : ℕ) (j : TypeRow) : Type 0 where
   pub there : isInterface w n ≡ true
   pub row : j .0 ≡ typeNamed w n
   pub below : j .0 < l .types
@@ -43,7 +43,7 @@ module _ (w : List ℕ) (n : ℕ) where
     pub interface-none : r ≡ Nothing → isInterface w n ≡ false
     interface-none a = ⊎-elim (λ b. never r (record { 0 = typeNamed w n }) (e ∙ found-yes b) a) (λ b. b) (decide (isInterface w n))
 
-    pub interface-at : (j : TypeRow) → r ≡ At j → Interface w l n j
+    pub interface-at : (j : TypeRow) → r ≡ At j → InterfaceAt w l n j
     interface-at j a =
         let b : isInterface w n ≡ true = ⊎-elim (λ b. b) (λ b. never r j a (e ∙ found-no b)) (decide (isInterface w n)) in
         let f : foundInterface w n ≡ At (record { 0 = typeNamed w n }) = found-yes b in

@@ -1,36 +1,60 @@
--- The rules over edges, by their names in the code: what each lists.
-use mathlib.Core.Bool.{not}
-use mathlib.Core.List.{List, _∷_, []}
+-- The rules over edges, by their names in the code: what each lists, for the numbers that the code hands on together.
+use mathlib.Core.Bool.{cond}
+use mathlib.Core.List.{List}
 use Prim.Native.Nat.{ℕ, _+_}
-use lib.ListN.{length, getD}
 use Rattle.records.specs.declared.Record.{Record}
 use Rattle.records.specs.Records.{each, when}
-use Rattle.records.specs.Rows.{undefinedDefinition, atEdge}
+use Rattle.rows.specs.declared.types.FoundType.{FoundType}
+use Rattle.rows.specs.declared.types.FoundType.the-variants.{At, Nothing}
 use Rattle.rows.specs.Types.{isInterface, typeNamed}
-use Rattle.rules.specs.Interface.{transitiveEdges, interfaceFields, missingField, fieldTypeRecord, fieldArguments}
-use Rattle.implementing.specs.declared.interface.FieldRule.{FieldRule}
-use Rattle.implementing.specs.declared.interface.FieldRule.the-variants.{Missing, Types, Arguments}
-use Rattle.implementing.specs.declared.interface.DefinedRule.{DefinedRule}
-use Rattle.implementing.specs.declared.interface.DefinedRule.the-variants.{Transitive, Fields}
-use Rattle.implementing.specs.declared.interface.EdgeRule.{EdgeRule}
-use Rattle.implementing.specs.declared.interface.EdgeRule.the-variants.{Undefined, Defined}
+use Rattle.rows.specs.Parts.{edgeRows, edgeNameIn}
+use Rattle.implementing.specs.Interface.{undefinedEdge, transitiveEdges, interfaceFields, missingField, fieldTypeRecord, fieldArguments, implementedFields, edgesRecords}
+use Rattle.implementing.specs.declared.edge_rule.FieldRule.{FieldRule}
+use Rattle.implementing.specs.declared.edge_rule.FieldRule.the-variants.{Missing, Types, Arguments}
+use Rattle.implementing.specs.declared.edge_rule.DefinedRule.{DefinedRule}
+use Rattle.implementing.specs.declared.edge_rule.DefinedRule.the-variants.{Transitive, Fields}
+use Rattle.implementing.specs.declared.edge_rule.EdgeRule.{EdgeRule}
+use Rattle.implementing.specs.declared.edge_rule.EdgeRule.the-variants.{Undefined, Defined}
+use Rattle.implementing.specs.declared.implementor.Implementor.{Implementor}
+use Rattle.implementing.specs.declared.implementor.InterfaceField.{InterfaceField}
 
--- for field k of an interface
-unfoldable pub fieldRule : FieldRule → (w : List ℕ) (t ffirst : ℕ) (fs : List ℕ) (e : ℕ) (ifs : List ℕ) (ifirst k : ℕ) → List Record
-fieldRule Missing w t ffirst fs e ifs ifirst k = missingField t fs e ifs ifirst k
-fieldRule Types w t ffirst fs e ifs ifirst k = fieldTypeRecord w t ffirst fs e ifs ifirst k
-fieldRule Arguments w t ffirst fs e ifs ifirst k = fieldArguments w t ffirst fs e ifs ifirst k
+-- the row of the interface with the name, as a search for it answers
+unfoldable pub foundInterface : (w : List ℕ) (n : ℕ) → FoundType
+foundInterface w n = cond (isInterface w n) (At (record { 0 = typeNamed w n })) Nothing
 
--- for the edge e to the interface j
-unfoldable pub definedRule : DefinedRule → (w : List ℕ) (t : ℕ) (es : List ℕ) (ffirst : ℕ) (fs : List ℕ) (e j : ℕ) → List Record
-definedRule Transitive w t es ffirst fs e j = transitiveEdges w t es e j
-definedRule (Fields r) w t es ffirst fs e j = interfaceFields (fieldRule r w t ffirst fs e) w j
+-- a rule for a field of an interface
+unfoldable pub fieldRule : FieldRule → (w : List ℕ) (own : Implementor) (fields demanded : List ℕ) (field : InterfaceField) → List Record
+fieldRule Missing w own fields demanded field = missingField (own .ty .0) fields (field .edge) demanded (field .first) (field .at)
+fieldRule Types w own fields demanded field = fieldTypeRecord w (own .ty .0) (own .«fields_first») fields (field .edge) demanded (field .first) (field .at)
+fieldRule Arguments w own fields demanded field = fieldArguments w (own .ty .0) (own .«fields_first») fields (field .edge) demanded (field .first) (field .at)
 
--- for the edge e of the name n
-unfoldable pub edgeRule : EdgeRule → (w : List ℕ) (t : ℕ) (es : List ℕ) (ffirst : ℕ) (fs : List ℕ) (n e : ℕ) → List Record
-edgeRule Undefined w t es ffirst fs n e = when (not (isInterface w n)) (undefinedDefinition t n atEdge e ∷ [])
-edgeRule (Defined r) w t es ffirst fs n e = when (isInterface w n) (definedRule r w t es ffirst fs e (typeNamed w n))
+-- for each field of the interface behind an edge
+unfoldable pub eachField : FieldRule → (w : List ℕ) (own : Implementor) (fields : List ℕ) (viaEdge interfaceType : ℕ) → List Record
+eachField rule w own fields viaEdge interfaceType =
+    interfaceFields (λ demanded first i. fieldRule rule w own fields demanded (record { edge = viaEdge; first = first; at = i })) w interfaceType
 
--- for all edges, which start at row `first`
-unfoldable pub eachEdge : EdgeRule → (w : List ℕ) (t first : ℕ) (es : List ℕ) (ffirst : ℕ) (fs : List ℕ) → List Record
-eachEdge rule w t first es ffirst fs = each (λ i. edgeRule rule w t es ffirst fs (getD es i 0) (first + i)) (length es)
+-- a rule for a defined edge
+unfoldable pub definedRule : DefinedRule → (w : List ℕ) (own : Implementor) (edges fields : List ℕ) (viaEdge interfaceType : ℕ) → List Record
+definedRule Transitive w own edges fields viaEdge interfaceType = transitiveEdges w (own .ty .0) edges viaEdge interfaceType
+definedRule (Fields rule) w own edges fields viaEdge interfaceType = eachField rule w own fields viaEdge interfaceType
+
+-- for edge i, if it is defined
+unfoldable pub definedEdge : DefinedRule → (w : List ℕ) (own : Implementor) (edges fields : List ℕ) (i : ℕ) → List Record
+definedEdge rule w own edges fields i =
+    when (isInterface w (edgeNameIn edges i)) (definedRule rule w own edges fields (own .«edges_first» + i) (typeNamed w (edgeNameIn edges i)))
+
+-- a rule for edge i
+unfoldable pub edgeRule : EdgeRule → (w : List ℕ) (own : Implementor) (edges fields : List ℕ) (i : ℕ) → List Record
+edgeRule Undefined w own edges fields i = undefinedEdge w (own .ty .0) (own .«edges_first») edges i
+edgeRule (Defined rule) w own edges fields i = definedEdge rule w own edges fields i
+
+-- for all edges
+unfoldable pub eachEdge : EdgeRule → (w : List ℕ) (own : Implementor) (edges fields : List ℕ) → List Record
+eachEdge rule w own edges fields = each (edgeRule rule w own edges fields) (edgeRows edges)
+
+-- the last three loops over the edges of an implementor, and all five
+abbrev pub implementedList : (w : List ℕ) (own : Implementor) (edges fields : List ℕ) → List Record
+implementedList w own edges fields = implementedFields w (own .ty .0) (own .«edges_first») edges (own .«fields_first») fields
+
+abbrev pub edgesList : (w : List ℕ) (own : Implementor) (edges fields : List ℕ) → List Record
+edgesList w own edges fields = edgesRecords w (own .ty .0) (own .«edges_first») edges (own .«fields_first») fields

@@ -1,16 +1,21 @@
 // An interface's fields against the type's own: 9, 10, or 11 to 13. One loop over the interface's fields serves the three rules.
 ghost use Prim.Native.Nat.{_+_, _≤_, _<_};
-ghost use Rattle.records.specs.Records.{Emitted, each};
+ghost use Rattle.records.specs.Records.{Emitted};
 ghost use Rattle.rows.specs.Parts.{fieldRows};
 ghost use Rattle.rows.specs.Readable.{SoundRows, FieldPart};
-ghost use Rattle.order.specs.Order.{Helps};
-ghost use Rattle.rules.specs.Interface.{missingField, fieldTypeRecord, fieldArguments};
-ghost use Rattle.implementing.specs.Rules.{fieldRule};
+ghost use Rattle.order.specs.Order.{Indexed};
+ghost use Rattle.implementing.specs.Interface.{missingField};
+ghost use Rattle.implementing.specs.declared.edge_rule.FieldRule.the-variants.{Types, Arguments};
+ghost use Rattle.implementing.specs.Rules.{fieldRule, eachField};
 ghost use Rattle.table.specs.Layout.{mostFields};
-ghost use Rattle.rules.specs.Bounds.{mostOfInterfaceField, mostOfInterface};
-use crate::field_types::is_valid_implementation_field_type;
-use crate::implementation_argument::validate_implementing_arguments;
-use crate::interface::FieldRule;
+ghost use Rattle.implementing.specs.Bounds.{mostOfInterface};
+ghost use Rattle.comparing.specs.Bounds.{mostOfInterfaceField};
+use crate::edge_rule::FieldRule;
+use crate::implementor::Implementor;
+use crate::implementor::InterfaceField;
+use comparing::field_types::is_valid_implementation_field_type;
+use comparing::implementation_argument::FieldPair;
+use comparing::implementation_argument::validate_implementing_arguments;
 use records::Record;
 use records::put;
 use records::used;
@@ -18,30 +23,29 @@ use rows::cells::field_name;
 use rows::cells::field_rows;
 use rows::cells::field_type;
 use rows::cells::field_wrap;
-use rows::numbers::TypeRow;
+use rows::parts::fields_of;
+use rows::parts::fields_start;
 use rows::search::Found;
 use rows::search::find_field;
 use table::layout::Layout;
+use table::numbers::TypeRow;
 
 // 9 for a field of the interface that the type lacks.
 fn validate_missing_field(
     t: TypeRow,
     fields: &[u32],
-    e: u32,
     interface_fields: &[u32],
-    interface_first: usize,
-    k: usize,
+    field: InterfaceField,
     out: &mut [u32],
 ) -> usize
-    requires { ⌜ (k < fieldRows (now «interface_fields»)) × («interface_first» + fieldRows (now «interface_fields») ≤ mostFields) ⌝ }
-    ensures { λ n. ⌜ Emitted (missingField (t .0) (now (fields .entry)) e (now («interface_fields» .entry)) «interface_first» k) (now (out .entry)) (now (out .exit)) n ⌝ }
+    requires { ⌜ (field .at < fieldRows (now «interface_fields»)) × (field .first + fieldRows (now «interface_fields») ≤ mostFields) ⌝ }
+    ensures { λ n. ⌜ Emitted (missingField (t .0) (now (fields .entry)) (field .edge) (now («interface_fields» .entry)) (field .first) (field .at)) (now (out .entry)) (now (out .exit)) n ⌝ }
     ensures { λ n. ⌜ n ≤ 1 ⌝ }
 {
-    let Found::At(_) = find_field(fields, field_name(interface_fields, k)) else {
-        return put(
-            out,
-            Record::missing_interface_field(t, e, (interface_first + k) as u32),
-        );
+    let i = field.at;
+    let Found::At(_) = find_field(fields, field_name(interface_fields, i)) else {
+        let row = (field.first + i) as u32;
+        return put(out, Record::missing_interface_field(t, field.edge, row));
     };
     0
 }
@@ -51,41 +55,35 @@ fn validate_field_type(
     words: &[u32],
     l: Layout,
     order: &[u32],
-    t: TypeRow,
-    first: usize,
+    own: Implementor,
     fields: &[u32],
-    e: u32,
     interface_fields: &[u32],
-    interface_first: usize,
-    k: usize,
+    field: InterfaceField,
     out: &mut [u32],
 ) -> usize
-    requires { ⌜ SoundRows (now words) l ⌝ }
-    requires { ⌜ FieldPart l first (now fields) ⌝ }
-    requires { ⌜ FieldPart l «interface_first» (now «interface_fields») ⌝ }
-    requires { ⌜ k < fieldRows (now «interface_fields») ⌝ }
-    requires { ⌜ Helps (now words) (l .types) (now order) ⌝ }
-    ensures { λ n. ⌜ Emitted (fieldTypeRecord (now (words .entry)) (t .0) first (now (fields .entry)) e (now («interface_fields» .entry)) «interface_first» k) (now (out .entry)) (now (out .exit)) n ⌝ }
+    requires { ⌜ Indexed (now words) l (now order) ⌝ }
+    requires { ⌜ FieldPart l (own .«fields_first») (now fields) ⌝ }
+    requires { ⌜ FieldPart l (field .first) (now «interface_fields») ⌝ }
+    requires { ⌜ field .at < fieldRows (now «interface_fields») ⌝ }
+    ensures { λ n. ⌜ Emitted (fieldRule Types (now (words .entry)) own (now (fields .entry)) (now («interface_fields» .entry)) field) (now (out .entry)) (now (out .exit)) n ⌝ }
     ensures { λ n. ⌜ n ≤ 1 ⌝ }
 {
-    let Found::At(x) = find_field(fields, field_name(interface_fields, k)) else {
+    let i = field.at;
+    let Found::At(own_at) = find_field(fields, field_name(interface_fields, i)) else {
         return 0;
     };
-    let name = field_type(interface_fields, k);
-    let wrap = field_wrap(interface_fields, k);
-    let own_name = field_type(fields, x);
-    let own = field_wrap(fields, x);
-    if is_valid_implementation_field_type(words, l, order, name, wrap, own_name, own) {
+    let name = field_type(interface_fields, i);
+    let wrap = field_wrap(interface_fields, i);
+    let own_name = field_type(fields, own_at);
+    let own_wrap = field_wrap(fields, own_at);
+    if is_valid_implementation_field_type(words, l, order, name, wrap, own_name, own_wrap) {
         return 0;
     }
+    let row = (field.first + i) as u32;
+    let own_row = (own.fields_first + own_at) as u32;
     put(
         out,
-        Record::invalid_implementation_field_type(
-            t,
-            e,
-            (interface_first + k) as u32,
-            (first + x) as u32,
-        ),
+        Record::invalid_implementation_field_type(own.ty, field.edge, row, own_row),
     )
 }
 
@@ -93,26 +91,34 @@ fn validate_field_type(
 fn validate_field_arguments(
     words: &[u32],
     l: Layout,
-    t: TypeRow,
-    first: usize,
+    own: Implementor,
     fields: &[u32],
-    e: u32,
     interface_fields: &[u32],
-    interface_first: usize,
-    k: usize,
+    field: InterfaceField,
     out: &mut [u32],
 ) -> usize
     requires { ⌜ SoundRows (now words) l ⌝ }
-    requires { ⌜ FieldPart l first (now fields) ⌝ }
-    requires { ⌜ FieldPart l «interface_first» (now «interface_fields») ⌝ }
-    requires { ⌜ k < fieldRows (now «interface_fields») ⌝ }
-    ensures { λ n. ⌜ Emitted (fieldArguments (now (words .entry)) (t .0) first (now (fields .entry)) e (now («interface_fields» .entry)) «interface_first» k) (now (out .entry)) (now (out .exit)) n ⌝ }
+    requires { ⌜ FieldPart l (own .«fields_first») (now fields) ⌝ }
+    requires { ⌜ FieldPart l (field .first) (now «interface_fields») ⌝ }
+    requires { ⌜ field .at < fieldRows (now «interface_fields») ⌝ }
+    ensures { λ n. ⌜ Emitted (fieldRule Arguments (now (words .entry)) own (now (fields .entry)) (now («interface_fields» .entry)) field) (now (out .entry)) (now (out .exit)) n ⌝ }
     ensures { λ n. ⌜ n ≤ mostOfInterfaceField ⌝ }
 {
-    let Found::At(x) = find_field(fields, field_name(interface_fields, k)) else {
+    let i = field.at;
+    let Found::At(own_at) = find_field(fields, field_name(interface_fields, i)) else {
         return 0;
     };
-    validate_implementing_arguments(words, l, t, e, interface_first + k, first + x, out)
+    let ty = own.ty;
+    let edge = field.edge;
+    let interface_field = (field.first + i) as u32;
+    let own_field = (own.fields_first + own_at) as u32;
+    let pair = FieldPair {
+        ty,
+        edge,
+        interface_field,
+        own_field,
+    };
+    validate_implementing_arguments(words, l, pair, out)
 }
 
 // One rule for one field of the interface.
@@ -121,98 +127,65 @@ fn validate_interface_field(
     words: &[u32],
     l: Layout,
     order: &[u32],
-    t: TypeRow,
-    first: usize,
+    own: Implementor,
     fields: &[u32],
-    e: u32,
     interface_fields: &[u32],
-    interface_first: usize,
-    k: usize,
+    field: InterfaceField,
     out: &mut [u32],
 ) -> usize
-    requires { ⌜ SoundRows (now words) l ⌝ }
-    requires { ⌜ FieldPart l first (now fields) ⌝ }
-    requires { ⌜ FieldPart l «interface_first» (now «interface_fields») ⌝ }
-    requires { ⌜ k < fieldRows (now «interface_fields») ⌝ }
-    requires { ⌜ Helps (now words) (l .types) (now order) ⌝ }
-    ensures { λ n. ⌜ Emitted (fieldRule rule (now (words .entry)) (t .0) first (now (fields .entry)) e (now («interface_fields» .entry)) «interface_first» k) (now (out .entry)) (now (out .exit)) n ⌝ }
+    requires { ⌜ Indexed (now words) l (now order) ⌝ }
+    requires { ⌜ FieldPart l (own .«fields_first») (now fields) ⌝ }
+    requires { ⌜ FieldPart l (field .first) (now «interface_fields») ⌝ }
+    requires { ⌜ field .at < fieldRows (now «interface_fields») ⌝ }
+    ensures { λ n. ⌜ Emitted (fieldRule rule (now (words .entry)) own (now (fields .entry)) (now («interface_fields» .entry)) field) (now (out .entry)) (now (out .exit)) n ⌝ }
     ensures { λ n. ⌜ n ≤ mostOfInterfaceField ⌝ }
 {
     match rule {
-        FieldRule::Missing => validate_missing_field(
-            t,
-            fields,
-            e,
-            interface_fields,
-            interface_first,
-            k,
-            out,
-        ),
-        FieldRule::Types => validate_field_type(
-            words,
-            l,
-            order,
-            t,
-            first,
-            fields,
-            e,
-            interface_fields,
-            interface_first,
-            k,
-            out,
-        ),
-        FieldRule::Arguments => validate_field_arguments(
-            words,
-            l,
-            t,
-            first,
-            fields,
-            e,
-            interface_fields,
-            interface_first,
-            k,
-            out,
-        ),
+        FieldRule::Missing => validate_missing_field(own.ty, fields, interface_fields, field, out),
+        FieldRule::Types => {
+            validate_field_type(words, l, order, own, fields, interface_fields, field, out)
+        }
+        FieldRule::Arguments => {
+            validate_field_arguments(words, l, own, fields, interface_fields, field, out)
+        }
     }
 }
 
+// One rule for each field of the interface behind an edge.
 pub fn validate_interface_fields(
     rule: FieldRule,
     words: &[u32],
     l: Layout,
     order: &[u32],
-    t: TypeRow,
-    first: usize,
+    own: Implementor,
     fields: &[u32],
-    e: u32,
-    interface_fields: &[u32],
-    interface_first: usize,
+    edge: u32,
+    interface: TypeRow,
     out: &mut [u32],
 ) -> usize
-    requires { ⌜ SoundRows (now words) l ⌝ }
-    requires { ⌜ FieldPart l first (now fields) ⌝ }
-    requires { ⌜ FieldPart l «interface_first» (now «interface_fields») ⌝ }
-    requires { ⌜ Helps (now words) (l .types) (now order) ⌝ }
-    ensures { λ n. ⌜ Emitted (each (fieldRule rule (now (words .entry)) (t .0) first (now (fields .entry)) e (now («interface_fields» .entry)) «interface_first») (fieldRows (now («interface_fields» .entry)))) (now (out .entry)) (now (out .exit)) n ⌝ }
+    requires { ⌜ Indexed (now words) l (now order) ⌝ }
+    requires { ⌜ FieldPart l (own .«fields_first») (now fields) ⌝ }
+    requires { ⌜ interface .0 < l .types ⌝ }
+    ensures { λ n. ⌜ Emitted (eachField rule (now (words .entry)) own (now (fields .entry)) edge (interface .0)) (now (out .entry)) (now (out .exit)) n ⌝ }
     ensures { λ n. ⌜ n ≤ mostOfInterface ⌝ }
 {
+    let first = fields_start(words, l, interface);
+    let interface_fields = fields_of(words, l, interface);
     let rows = field_rows(interface_fields);
     let mut n = 0;
     let mut i = 0;
     while i < rows {
         let at = used(n, out.len());
+        let field = InterfaceField { edge, first, at: i };
         n += validate_interface_field(
             rule,
             words,
             l,
             order,
-            t,
-            first,
+            own,
             fields,
-            e,
             interface_fields,
-            interface_first,
-            i,
+            field,
             &mut out[at..],
         );
         i += 1;

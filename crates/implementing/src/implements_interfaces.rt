@@ -1,43 +1,42 @@
 // Which edges are defined, 3, and which the implemented interfaces ask for besides, 8 (the Rust's interface.rs,
 // validate_implements_interfaces). An edge is defined if its name is an interface here.
 ghost use mathlib.Core.Path.{_≡_};
-ghost use mathlib.Core.List.{_∷_, []};
-ghost use mathlib.Core.Bool.{not};
-ghost use Prim.Native.Nat.{_+_, _≤_};
-ghost use lib.ListN.{length};
-ghost use Rattle.table.specs.Layout.{Laid};
-ghost use Rattle.records.specs.Records.{Emitted, each, when};
-ghost use Rattle.records.specs.Rows.{undefinedDefinition, transitiveImplementedInterfaces, atEdge};
-ghost use Rattle.rows.specs.Search.{contains};
-ghost use Rattle.rows.specs.Types.{isInterface};
-ghost use Rattle.order.specs.Order.{Helps};
-ghost use Rattle.rules.specs.Interface.{transitiveEdge};
-ghost use Rattle.implementing.specs.Interfaces.{foundInterface};
+ghost use Prim.Native.Nat.{_+_, _≤_, _<_};
+ghost use Rattle.records.specs.Records.{Emitted};
+ghost use Rattle.rows.specs.Parts.{edgeRows};
+ghost use Rattle.rows.specs.Readable.{SoundRows, NamePart};
+ghost use Rattle.order.specs.Order.{Indexed};
+ghost use Rattle.implementing.specs.Interface.{undefinedEdge, transitiveEdge, transitiveEdges};
+ghost use Rattle.implementing.specs.Rules.{foundInterface};
 ghost use Rattle.table.specs.Layout.{mostEdges};
+use crate::implementor::Implementor;
 use order::find::look_up;
 use records::Place;
 use records::Record;
 use records::put;
 use records::used;
-use rows::numbers::NameNo;
-use rows::numbers::TypeRow;
+use rows::cells::edge_name;
+use rows::cells::edge_rows;
+use rows::parts::edges_of;
+use rows::parts::edges_start;
 use rows::search::has_name;
 use rows::types::FoundType;
 use rows::types::type_kind;
 use table::kinds::Kind;
 use table::layout::Layout;
+use table::numbers::NameNo;
+use table::numbers::TypeRow;
 
 // The interface of the name.
 pub fn find_interface(words: &[u32], l: Layout, order: &[u32], name: NameNo) -> FoundType
-    requires { ⌜ Laid (now words) l ⌝ }
-    requires { ⌜ Helps (now words) (l .types) (now order) ⌝ }
+    requires { ⌜ Indexed (now words) l (now order) ⌝ }
     ensures { λ r. ⌜ r ≡ foundInterface (now (words .entry)) (name .0) ⌝ }
 {
-    let FoundType::At(j) = look_up(words, l, order, name) else {
+    let FoundType::At(ty) = look_up(words, l, order, name) else {
         return FoundType::Nothing;
     };
-    if type_kind(words, l, j) == Kind::INTERFACE {
-        return FoundType::At(j);
+    if type_kind(words, l, ty) == Kind::INTERFACE {
+        return FoundType::At(ty);
     }
     FoundType::Nothing
 }
@@ -47,62 +46,81 @@ pub fn validate_edge_defined(
     words: &[u32],
     l: Layout,
     order: &[u32],
-    t: TypeRow,
-    name: NameNo,
-    row: u32,
+    own: Implementor,
+    edges: &[u32],
+    i: usize,
     out: &mut [u32],
 ) -> usize
-    requires { ⌜ Laid (now words) l ⌝ }
-    requires { ⌜ Helps (now words) (l .types) (now order) ⌝ }
-    ensures { λ n. ⌜ Emitted (when (not (isInterface (now (words .entry)) (name .0))) (undefinedDefinition (t .0) (name .0) atEdge row ∷ [])) (now (out .entry)) (now (out .exit)) n ⌝ }
+    requires { ⌜ Indexed (now words) l (now order) ⌝ }
+    requires { ⌜ NamePart l (own .«edges_first») (now edges) ⌝ }
+    requires { ⌜ i < edgeRows (now edges) ⌝ }
+    ensures { λ n. ⌜ Emitted (undefinedEdge (now (words .entry)) (own .ty .0) (own .«edges_first») (now (edges .entry)) i) (now (out .entry)) (now (out .exit)) n ⌝ }
     ensures { λ n. ⌜ n ≤ 1 ⌝ }
 {
+    let name = edge_name(edges, i);
     let FoundType::At(_) = find_interface(words, l, order, name) else {
-        return put(out, Record::undefined_definition(t, name, Place::EDGE, row));
+        let row = (own.edges_first + i) as u32;
+        return put(
+            out,
+            Record::undefined_definition(own.ty, name, Place::EDGE, row),
+        );
     };
     0
 }
 
-// 8 for an edge of the interface that the type lacks.
+// 8 for an edge i of the interface that the type lacks.
 fn validate_transitive_edge(
-    t: TypeRow,
+    ty: TypeRow,
     edges: &[u32],
-    e: u32,
-    name: NameNo,
-    row: u32,
-    out: &mut [u32],
-) -> usize
-    ensures { λ n. ⌜ Emitted (when (not (contains (now (edges .entry)) (name .0))) (transitiveImplementedInterfaces (t .0) e row ∷ [])) (now (out .entry)) (now (out .exit)) n ⌝ }
-    ensures { λ n. ⌜ n ≤ 1 ⌝ }
-{
-    if has_name(edges, name) {
-        return 0;
-    }
-    put(out, Record::transitive_implemented_interfaces(t, e, row))
-}
-
-pub fn validate_transitive_edges(
-    t: TypeRow,
-    edges: &[u32],
-    e: u32,
+    via_edge: u32,
     first: usize,
     interface_edges: &[u32],
+    i: usize,
     out: &mut [u32],
 ) -> usize
-    requires { ⌜ first + length (now «interface_edges») ≤ mostEdges ⌝ }
-    ensures { λ n. ⌜ Emitted (each (transitiveEdge (t .0) (now (edges .entry)) e first (now («interface_edges» .entry))) (length (now («interface_edges» .entry)))) (now (out .entry)) (now (out .exit)) n ⌝ }
+    requires { ⌜ (i < edgeRows (now «interface_edges»)) × (first + edgeRows (now «interface_edges») ≤ mostEdges) ⌝ }
+    ensures { λ n. ⌜ Emitted (transitiveEdge (ty .0) (now (edges .entry)) «via_edge» first (now («interface_edges» .entry)) i) (now (out .entry)) (now (out .exit)) n ⌝ }
+    ensures { λ n. ⌜ n ≤ 1 ⌝ }
+{
+    if has_name(edges, edge_name(interface_edges, i)) {
+        return 0;
+    }
+    let row = (first + i) as u32;
+    put(
+        out,
+        Record::transitive_implemented_interfaces(ty, via_edge, row),
+    )
+}
+
+// 8 per edge of the interface behind an edge.
+pub fn validate_transitive_edges(
+    words: &[u32],
+    l: Layout,
+    ty: TypeRow,
+    edges: &[u32],
+    via_edge: u32,
+    interface: TypeRow,
+    out: &mut [u32],
+) -> usize
+    requires { ⌜ SoundRows (now words) l ⌝ }
+    requires { ⌜ interface .0 < l .types ⌝ }
+    ensures { λ n. ⌜ Emitted (transitiveEdges (now (words .entry)) (ty .0) (now (edges .entry)) «via_edge» (interface .0)) (now (out .entry)) (now (out .exit)) n ⌝ }
     ensures { λ n. ⌜ n ≤ mostEdges ⌝ }
 {
+    let first = edges_start(words, l, interface);
+    let interface_edges = edges_of(words, l, interface);
+    let rows = edge_rows(interface_edges);
     let mut n = 0;
     let mut i = 0;
-    while i < interface_edges.len() {
+    while i < rows {
         let at = used(n, out.len());
         n += validate_transitive_edge(
-            t,
+            ty,
             edges,
-            e,
-            NameNo(interface_edges[i]),
-            (first + i) as u32,
+            via_edge,
+            first,
+            interface_edges,
+            i,
             &mut out[at..],
         );
         i += 1;

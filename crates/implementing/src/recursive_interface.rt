@@ -1,32 +1,34 @@
 // 6: an interface whose edge names itself (the Rust's interface.rs, validate_interface_definition).
-ghost use mathlib.Core.List.{_∷_, []};
 ghost use Prim.Native.Nat.{_≤_, _<_};
-ghost use lib.ListN.{length};
+ghost use mathlib.Core.List.{_∷_, []};
 ghost use lib.Dec.{eqb};
-ghost use Rattle.records.specs.Records.{Emitted, each, when};
+ghost use Rattle.records.specs.Records.{Emitted, when};
 ghost use Rattle.records.specs.Rows.{recursiveInterfaceDefinition};
 ghost use Rattle.rows.specs.Readable.{SoundRows, NamePart};
-ghost use Rattle.rules.specs.Interface.{selfEdge};
+ghost use Rattle.implementing.specs.Interface.{selfEdges};
 ghost use Rattle.table.specs.Layout.{mostEdges};
 use records::Record;
 use records::put;
 use records::used;
-use rows::numbers::NameNo;
-use rows::numbers::TypeRow;
+use rows::cells::edge_name;
+use rows::cells::edge_rows;
 use rows::types::type_name;
 use table::layout::Layout;
+use table::numbers::NameNo;
+use table::numbers::TypeRow;
 
 // 6 for an edge that names the type itself.
 fn validate_self_edge(t: TypeRow, own: NameNo, name: NameNo, row: u32, out: &mut [u32]) -> usize
     ensures { λ n. ⌜ Emitted (when (eqb (name .0) (own .0)) (recursiveInterfaceDefinition (t .0) row ∷ [])) (now (out .entry)) (now (out .exit)) n ⌝ }
     ensures { λ n. ⌜ n ≤ 1 ⌝ }
 {
-    if name.0 == own.0 {
+    if name.same(own) {
         return put(out, Record::recursive_interface_definition(t, row));
     }
     0
 }
 
+// 6 per edge.
 pub fn validate_self_edges(
     words: &[u32],
     l: Layout,
@@ -38,15 +40,17 @@ pub fn validate_self_edges(
     requires { ⌜ SoundRows (now words) l ⌝ }
     requires { ⌜ t .0 < l .types ⌝ }
     requires { ⌜ NamePart l first (now edges) ⌝ }
-    ensures { λ n. ⌜ Emitted (each (selfEdge (now (words .entry)) (t .0) first (now (edges .entry))) (length (now (edges .entry)))) (now (out .entry)) (now (out .exit)) n ⌝ }
+    ensures { λ n. ⌜ Emitted (selfEdges (now (words .entry)) (t .0) first (now (edges .entry))) (now (out .entry)) (now (out .exit)) n ⌝ }
     ensures { λ n. ⌜ n ≤ mostEdges ⌝ }
 {
     let own = type_name(words, l, t);
+    let rows = edge_rows(edges);
     let mut n = 0;
     let mut i = 0;
-    while i < edges.len() {
+    while i < rows {
         let at = used(n, out.len());
-        n += validate_self_edge(t, own, NameNo(edges[i]), (first + i) as u32, &mut out[at..]);
+        let row = (first + i) as u32;
+        n += validate_self_edge(t, own, edge_name(edges, i), row, &mut out[at..]);
         i += 1;
     }
     n

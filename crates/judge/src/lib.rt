@@ -12,8 +12,7 @@ ghost use Prim.Native.Nat.{_<_};
 ghost use Rattle.rows.specs.Readable.{SoundRows};
 ghost use Rattle.chains.specs.Fields.{isInputObject, chainGraph};
 ghost use Rattle.evidence.specs.Rules.{lowest};
-ghost use Rattle.evidence.specs.Verdict.{judgedOf};
-ghost use Rattle.evidence.specs.Chained.{Chained};
+ghost use Rattle.evidence.specs.Judged.{judgedOf};
 use crate::rule::rule1;
 use crate::rule::rule2;
 use crate::rule::rule3;
@@ -22,14 +21,14 @@ use crate::rule::rule5;
 use crate::rule::rule6;
 use crate::rule::rule7;
 use evidence::judged::Judged;
-use rows::numbers::TypeRow;
 use table::layout::Layout;
+use table::numbers::TypeRow;
 
 mod rule;
 
 // The lowest rule that row t breaks, and 0 where it breaks none.
 fn lowest(words: &[u32], l: Layout, ev: &[u32], t: TypeRow) -> u32
-    requires { ⌜ Chained (now words) l ⌝ }
+    requires { ⌜ SoundRows (now words) l ⌝ }
     requires { ⌜ t .0 < l .types ⌝ }
     ensures { λ r. ⌜ r ≡ lowest (chainGraph (now (words .entry))) (isInputObject (now (words .entry))) (now (ev .entry)) (t .0) ⌝ }
 {

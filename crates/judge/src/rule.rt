@@ -3,34 +3,35 @@
 // Where a rule has a type looked up by its name it hands on no words of an order, `&words[..0]`, since the judge is lent none.
 ghost use mathlib.Core.Path.{_≡_};
 ghost use Prim.Native.Nat.{_<_};
+ghost use Rattle.rows.specs.Readable.{SoundRows};
 ghost use Rattle.chains.specs.Fields.{isInputObject, chainGraph};
 ghost use Rattle.evidence.specs.Rules.{any, comesIn, falls, rule1, rule2, rule3, rule4, rule5, rule6, rule7};
-ghost use Rattle.evidence.specs.Chained.{Chained};
 use chains::fields::chains_end;
 use chains::fields::is_input_object;
+use chains::fields::target;
 use evidence::chain::comes_in;
 use evidence::chain::goes_out;
-use evidence::chain::led_to;
+use evidence::row::EvidenceColumn;
 use evidence::row::in_depth;
 use evidence::row::in_field;
 use evidence::row::leader;
 use evidence::row::leads;
 use evidence::row::marked;
+use evidence::row::none_at;
 use evidence::row::number;
 use evidence::row::out_distance;
 use evidence::row::out_field;
-use rows::numbers::TypeRow;
 use rows::parts::fields_start;
 use rows::types::FoundType;
 use table::layout::Layout;
-use table::layout::wide;
+use table::numbers::TypeRow;
 
 // Number below T; leader below T or NONE.
 pub fn rule1(types: usize, ev: &[u32], t: TypeRow) -> bool
     ensures { λ r. ⌜ r ≡ rule1 (now (ev .entry)) (t .0) types ⌝ }
 {
-    let leader = wide(leader(ev, t).0);
-    (number(ev, t) < types) & ((leader < types) | (leader == Layout::NONE))
+    (number(ev, t) < types)
+        & ((leader(ev, t).index() < types) | none_at(ev, t, EvidenceColumn::Leader))
 }
 
 // Unmarked: the last four are NONE.
@@ -38,15 +39,15 @@ pub fn rule2(ev: &[u32], t: TypeRow) -> bool
     ensures { λ r. ⌜ r ≡ rule2 (now (ev .entry)) (t .0) ⌝ }
 {
     marked(ev, t)
-        | ((out_field(ev, t) == Layout::NONE)
-            & (out_distance(ev, t) == Layout::NONE)
-            & (in_field(ev, t) == Layout::NONE)
-            & (in_depth(ev, t) == Layout::NONE))
+        | (none_at(ev, t, EvidenceColumn::OutField)
+            & none_at(ev, t, EvidenceColumn::OutDistance)
+            & none_at(ev, t, EvidenceColumn::InField)
+            & none_at(ev, t, EvidenceColumn::InDepth))
 }
 
 // Marked: kind 5, and the leader's row names itself as leader.
 pub fn rule3(words: &[u32], l: Layout, ev: &[u32], t: TypeRow) -> bool
-    requires { ⌜ Chained (now words) l ⌝ }
+    requires { ⌜ SoundRows (now words) l ⌝ }
     requires { ⌜ t .0 < l .types ⌝ }
     ensures { λ r. ⌜ r ≡ rule3 (now (ev .entry)) (t .0) (isInputObject (now (words .entry)) (t .0)) ⌝ }
 {
@@ -63,7 +64,7 @@ pub fn rule4(ev: &[u32], t: TypeRow) -> bool
 
 // Marked: out field is a chain field of this type to one with the same leader; unless it leads itself, that one's distance is one less.
 pub fn rule5(words: &[u32], l: Layout, ev: &[u32], t: TypeRow) -> bool
-    requires { ⌜ Chained (now words) l ⌝ }
+    requires { ⌜ SoundRows (now words) l ⌝ }
     requires { ⌜ t .0 < l .types ⌝ }
     ensures { λ r. ⌜ r ≡ rule5 (chainGraph (now (words .entry))) (now (ev .entry)) (t .0) ⌝ }
 {
@@ -75,7 +76,7 @@ pub fn rule5(words: &[u32], l: Layout, ev: &[u32], t: TypeRow) -> bool
 
 // A field f is a chain field to this type, from one with the same leader and depth one less.
 fn some_comes_in(words: &[u32], l: Layout, ev: &[u32], t: TypeRow, f: usize) -> bool
-    requires { ⌜ Chained (now words) l ⌝ }
+    requires { ⌜ SoundRows (now words) l ⌝ }
     ensures { λ r. ⌜ r ≡ any (comesIn (chainGraph (now (words .entry))) (now (ev .entry)) (t .0) f) (l .types) ⌝ }
 {
     let mut s = 0;
@@ -90,25 +91,25 @@ fn some_comes_in(words: &[u32], l: Layout, ev: &[u32], t: TypeRow, f: usize) -> 
 
 // Leader: in field NONE. Other marked: in field is a chain field to this type, from one with the same leader and depth one less.
 pub fn rule6(words: &[u32], l: Layout, ev: &[u32], t: TypeRow) -> bool
-    requires { ⌜ Chained (now words) l ⌝ }
+    requires { ⌜ SoundRows (now words) l ⌝ }
     ensures { λ r. ⌜ r ≡ rule6 (chainGraph (now (words .entry))) (now (ev .entry)) (t .0) ⌝ }
 {
     if !marked(ev, t) {
         return true;
     }
     if leads(ev, t) {
-        return in_field(ev, t) == Layout::NONE;
+        return none_at(ev, t, EvidenceColumn::InField);
     }
     some_comes_in(words, l, ev, t, in_field(ev, t))
 }
 
 // Where field f leads to a type, that has a number no higher, and strictly lower if this type is unmarked.
 fn falls(words: &[u32], l: Layout, ev: &[u32], t: TypeRow, f: usize) -> bool
-    requires { ⌜ Chained (now words) l ⌝ }
+    requires { ⌜ SoundRows (now words) l ⌝ }
     requires { ⌜ f < l .fields ⌝ }
     ensures { λ r. ⌜ r ≡ falls (chainGraph (now (words .entry))) (now (ev .entry)) (t .0) f ⌝ }
 {
-    let FoundType::At(u) = led_to(words, l, &words[..0], f) else {
+    let FoundType::At(u) = target(words, l, &words[..0], f) else {
         return true;
     };
     (number(ev, u) <= number(ev, t)) & (marked(ev, t) | (number(ev, u) < number(ev, t)))
@@ -116,7 +117,7 @@ fn falls(words: &[u32], l: Layout, ev: &[u32], t: TypeRow, f: usize) -> bool
 
 // Each chain field of this type goes to a number no higher, and strictly lower if this type is unmarked.
 pub fn rule7(words: &[u32], l: Layout, ev: &[u32], t: TypeRow) -> bool
-    requires { ⌜ Chained (now words) l ⌝ }
+    requires { ⌜ SoundRows (now words) l ⌝ }
     requires { ⌜ t .0 < l .types ⌝ }
     ensures { λ r. ⌜ r ≡ rule7 (chainGraph (now (words .entry))) (now (ev .entry)) (t .0) ⌝ }
 {

@@ -9,15 +9,17 @@ use lib.ListN.{length, take, drop, replicate, take-append-drop}
 use borrow.Author.Tests.{eqb-true, eqb-false}
 use Rattle.names.proofs.BoolLaws.{decide}
 use Rattle.table.specs.declared.layout.Layout.{Layout}
-use Rattle.table.specs.declared.check.Verdict.{Verdict}
-use Rattle.table.specs.declared.check.Verdict.the-variants.{WellFormed, Refused}
-use Rattle.table.specs.Answers.{numberOf, Proper}
+use Rattle.table.specs.declared.refusal.Refusal.{Refusal}
+use Rattle.wellformed.specs.declared.check.Verdict.{Verdict}
+use Rattle.wellformed.specs.declared.check.Verdict.the-variants.{WellFormed, Refused}
+use Rattle.table.specs.Refusals.{wrongEvidence}
+use Rattle.wellformed.specs.Answers.{verdictNumber, Proper}
 use Rattle.table.specs.Layout.{layoutOf, typeCount}
-use Rattle.table.specs.WellFormed.{refusal}
+use Rattle.wellformed.specs.WellFormed.{refusal}
 use Rattle.chains.specs.Chains.{Graph}
 use Rattle.chains.specs.Fields.{chainGraph}
 use Rattle.evidence.specs.Words.{evidenceWords}
-use Rattle.evidence.specs.Verdict.{judgedOf}
+use Rattle.evidence.specs.Judged.{judgedOf}
 use Rattle.evidence.proofs.Exists.{evidence, evidence-canonical}
 use Rattle.evidence.proofs.Unique.{canonical-unique}
 use Rattle.producer.specs.Produced.{Rooms, Made}
@@ -29,43 +31,46 @@ use Rattle.lhakvuni.specs.declared.judging.Judgement.the-variants.{Passe
 use Rattle.lhakvuni.specs.declared.judging.Judgement.the-variants.{Refused as Refuses}
 use Rattle.evidence.specs.declared.judged.Judged.{Judged}
 use Rattle.evidence.specs.declared.judged.Judged.the-variants.{Pass, Broken}
-use Rattle.lhakvuni.specs.Answers.{judgementOf, judgedNumber}
+use Rattle.lhakvuni.specs.Answers.{judgementOf, judgementNumber}
 use Rattle.lhakvuni.specs.Promise.{Output, Promised}
 use Rattle.lhakvuni.specs.Calls.{judgeNumber, makeNumber, workNumber, JudgedKept, EvidenceKept}
 use Rattle.lhakvuni.proofs.PromiseLaws.{output-short, output-done, promise-refused, promise-given, one-answer, same-answer}
 use Rattle.lhakvuni.proofs.NumberLaws.{types-are, refusal-some, judge-refused, make-refused, judge-number, make-number, evidence-other, evidence-right, work-short, work-long}
-use Rattle.lhakvuni.proofs.CallLaws.{accepted, nine}
+use Rattle.lhakvuni.proofs.CallLaws.{accepted, nine, workRefusal}
 
-eight : _≢_ {A = ℕ} 8 0
+abbrev lengthRefusal : Refusal
+lengthRefusal = record { 0 = wrongEvidence }
+
+eight : _≢_ {A = ℕ} wrongEvidence 0
 eight e = absurd (omega arith)
 
 -- the judge: a verdict has the number 0, and a refusal's number is that of one answer
-judged-zero : (v : Judged) → judgedNumber (judgementOf v) ≡ 0
+judged-zero : (v : Judged) → judgementNumber (judgementOf v) ≡ 0
 judged-zero Pass = refl
 judged-zero (Broken row rule) = refl
 
-refused-is : (j : Judgement) (n : ℕ) → judgedNumber j ≡ n → n ≢ 0 → j ≡ Refuses n
+refused-is : (j : Judgement) (n : ℕ) → judgementNumber j ≡ n → n ≢ 0 → j ≡ Refuses (record { 0 = n })
 refused-is Passes n e h = absurd (h (sym e))
 refused-is (Breaks row rule) n e h = absurd (h (sym e))
-refused-is (Refuses k) n e h = ap Refuses e
+refused-is (Refuses k) n e h = ap (λ (x : ℕ). Refuses (record { 0 = x })) e
 
-judge-refuse : (text w ev : List ℕ) (n : ℕ) → judgeNumber text w ev ≡ n → n ≢ 0 → JudgedKept text w ev (Refuses n)
+judge-refuse : (text w ev : List ℕ) (n : Refusal) → judgeNumber text w ev ≡ n .0 → n .0 ≢ 0 → JudgedKept text w ev (Refuses n)
 judge-refuse text w ev n e h = record { number-is = sym e; judged = λ z. absurd (h (sym e ∙ z)) }
 
-module _ (text w : List ℕ) (v : Verdict) (e : numberOf v ≡ refusal text w) (ev : List ℕ) where
-  -- 1 to 6
-  pub judge-table : Proper v → (n : ℕ) → v ≡ Refused n → JudgedKept text w ev (Refuses n)
+module _ (text w : List ℕ) (v : Verdict) (e : verdictNumber v ≡ refusal text w) (ev : List ℕ) where
+  -- the table's refusals
+  pub judge-table : Proper v → (n : Refusal) → v ≡ Refused n → JudgedKept text w ev (Refuses n)
   judge-table p n r = judge-refuse text w ev n (judge-refused v text w e p n r ev) (refusal-some v text w e p n r)
 
   module _ (good : v ≡ WellFormed) (l : Layout) (same : l ≡ layoutOf w) where
-    -- 8
-    pub judge-length : (length ev ≡ evidenceWords * l .types → ⊥) → JudgedKept text w ev (Refuses 8)
-    judge-length h = judge-refuse text w ev 8 (judge-number text w (accepted text w v e good l same) ev ∙ evidence-other w l same ev h) eight
+    -- evidence of another length
+    pub judge-length : (length ev ≡ evidenceWords * l .types → ⊥) → JudgedKept text w ev (Refuses lengthRefusal)
+    judge-length h = judge-refuse text w ev lengthRefusal (judge-number text w (accepted text w v e good l same) ev ∙ evidence-other w l same ev h) eight
 
     pub judge-given : (j : Judgement) → length ev ≡ evidenceWords * l .types → j ≡ judgementOf (judgedOf w ev) → JudgedKept text w ev j
     judge-given j h r =
         let z : judgeNumber text w ev ≡ 0 = judge-number text w (accepted text w v e good l same) ev ∙ evidence-right w l same ev h in
-        record { number-is = ap judgedNumber r ∙ judged-zero (judgedOf w ev) ∙ sym z; judged = λ _. r }
+        record { number-is = ap judgementNumber r ∙ judged-zero (judgedOf w ev) ∙ sym z; judged = λ _. r }
 
 -- two judgements that meet the promise are equal
 pub one-judgement : (text w ev : List ℕ) (i j : Judgement) → JudgedKept text w ev i → JudgedKept text w ev j → i ≡ j
@@ -85,7 +90,7 @@ made-output g out out′ n m h e =
     output-done (g .types) (take (evidenceWords * g .types) out′) out out′ (Rows n) (omega (arith, s)) (ap Rows e) r
 
 -- the producer
-make-refuse : (text w work out : List ℕ) (n : ℕ) → makeNumber text w work ≡ n → n ≢ 0 → EvidenceKept text w work out work out (Refuse n)
+make-refuse : (text w work out : List ℕ) (n : Refusal) → makeNumber text w work ≡ n .0 → n .0 ≢ 0 → EvidenceKept text w work out work out (Refuse n)
 make-refuse text w work out n e h =
     record {
       rows = evidence (chainGraph w);
@@ -93,21 +98,21 @@ make-refuse text w work out n e h =
       promise = promise-refused _ _ _ _ work out n e h;
     }
 
-module _ (text w : List ℕ) (v : Verdict) (e : numberOf v ≡ refusal text w) where
-  -- 1 to 6
-  pub make-table : (work out : List ℕ) → Proper v → (n : ℕ) → v ≡ Refused n → EvidenceKept text w work out work out (Refuse n)
+module _ (text w : List ℕ) (v : Verdict) (e : verdictNumber v ≡ refusal text w) where
+  -- the table's refusals
+  pub make-table : (work out : List ℕ) → Proper v → (n : Refusal) → v ≡ Refused n → EvidenceKept text w work out work out (Refuse n)
   make-table work out p n r = make-refuse text w work out n (make-refused v text w e p n r work) (refusal-some v text w e p n r)
 
   module _ (good : v ≡ WellFormed) (l : Layout) (same : l ≡ layoutOf w) (work out : List ℕ) where
-    -- 9
-    pub make-work : length work < evidenceWords * l .types → EvidenceKept text w work out work out (Refuse 9)
-    make-work h = make-refuse text w work out 9 (make-number text w (accepted text w v e good l same) work ∙ work-short w l same evidenceWords work h) nine
+    -- a work table that is too short
+    pub make-work : length work < evidenceWords * l .types → EvidenceKept text w work out work out (Refuse workRefusal)
+    make-work h = make-refuse text w work out workRefusal (make-number text w (accepted text w v e good l same) work ∙ work-short w l same evidenceWords work h) nine
 
     module _ (room : evidenceWords * l .types ≤ length work) where
       fits : makeNumber text w work ≡ 0
       fits = make-number text w (accepted text w v e good l same) work ∙ work-long w l same evidenceWords work room
 
-      -- 10
+      -- an output that is too short
       pub make-short : (work′ : List ℕ) (need : ℕ) → need ≡ evidenceWords * l .types → length out < need
           → work′ ≡ replicate need 0 ++ drop need work → EvidenceKept text w work out work′ out (Short need)
       make-short work′ need a h c =

@@ -5,3 +5,5 @@ pub mod WorkLaws
 pub mod CallLaws
 pub mod OneAnswer
 pub mod EvidenceLaws
+pub mod ExportLaws
+pub mod WholeCase

@@ -8,13 +8,14 @@ use lib.ListN.{length}
 use Rattle.table.specs.Layout.{typeCount}
 use Rattle.records.specs.declared.Record.{Record}
 use Rattle.records.specs.Records.{each, flat}
-use Rattle.rules.specs.Validation.{typeRecords}
-use Rattle.rules.specs.Validation.{records as listOf}
+use Rattle.validation.specs.Validation.{typeRecords}
+use Rattle.validation.specs.Validation.{records as listOf}
 use Rattle.chains.specs.Fields.{chainGraph}
 use Rattle.chains.proofs.Order.{rows-unique, count-unique}
 use Rattle.lhakvuni.specs.declared.answer.Answer.{Answer}
 use Rattle.lhakvuni.specs.Promise.{Promised}
-use Rattle.lhakvuni.specs.Calls.{workWords, workNumber, recordsNumber, cycleNumber, Listed, RecordsKept, FirstCycleKept}
+use Rattle.chains.specs.Work.{workWords}
+use Rattle.lhakvuni.specs.Calls.{workNumber, recordsNumber, cycleNumber, Listed, RecordsKept, FirstCycleKept}
 use Rattle.lhakvuni.proofs.PromiseLaws.{one-answer, same-answer}
 
 -- lists of rules that agree below n

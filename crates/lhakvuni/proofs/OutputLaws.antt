@@ -9,8 +9,7 @@ use Rattle.records.specs.declared.Record.{Record}
 use Rattle.records.specs.Records.{Emitted, flat, rowWords}
 use Rattle.records.proofs.Records.{flat-length}
 use Rattle.chains.specs.Chains.{Graph}
-use Rattle.chains.specs.Answer.{CycleCount}
-use Rattle.chains.specs.Answer.{Answer as Found}
+use Rattle.chains.specs.Answer.{CycleCount, CycleAnswered}
 use Rattle.chains.proofs.Order.{rows-unique}
 use Rattle.lhakvuni.specs.declared.answer.Answer.the-variants.{Rows, Short}
 use Rattle.lhakvuni.specs.Promise.{Output}
@@ -59,7 +58,7 @@ module _ (g : Graph) (t n : ℕ) (out : List ℕ) (counted : CycleCount g t n) w
         output = output-short (length (counted .fields)) (counted .fields) out (Short n) (omega (arith, counted .count)) (ap Short (counted .count));
       }
 
-  pub cycle-done : (out′ : List ℕ) (m : ℕ) → n ≤ length out → Found g t out out′ m → CycleOutput g t out out′ (Rows n)
+  pub cycle-done : (out′ : List ℕ) (m : ℕ) → n ≤ length out → CycleAnswered g t out out′ m → CycleOutput g t out out′ (Rows n)
   cycle-done out′ m h f =
       let e : counted .fields ≡ f .fields = rows-unique g t (counted .fields) (f .fields) (counted .right) (f .right) in
       let k : n ≡ length (f .fields) = counted .count ∙ ap length e in

@@ -8,12 +8,14 @@ use lib.Dec.{ltb, eqb}
 use lib.ListN.{length, drop, replicate}
 use borrow.Author.Tests.{eqb-true, eqb-false, ltb-true, ltb-false}
 use Rattle.names.proofs.BoolLaws.{decide}
+use Rattle.table.specs.declared.refusal.Refusal.{Refusal}
+use Rattle.table.specs.Refusals.{shortOut}
 use Rattle.lhakvuni.specs.declared.answer.Answer.{Answer}
 use Rattle.lhakvuni.specs.declared.answer.Answer.the-variants.{Rows, Refused, Short}
 use Rattle.lhakvuni.specs.Answers.{Returned}
 use Rattle.lhakvuni.specs.Promise.{Output, Promised}
 
-returned-short : (a : Answer) (n : ℕ) → a ≡ Short n → Returned a 10 (λ _. n)
+returned-short : (a : Answer) (n : ℕ) → a ≡ Short n → Returned a shortOut (λ _. n)
 returned-short a n e = rw e record { number-is = refl; value-is = λ v. refl }
 
 returned-rows : (a : Answer) (n : ℕ) → a ≡ Rows n → Returned a 0 (λ _. n)
@@ -25,7 +27,7 @@ returned-one (Rows x) (Rows y) n f p q = ap Rows (p .value-is 0 ∙ sym (q .valu
 returned-one (Rows x) (Refused k) n f p q = absurd (omega (arith, p .value-is 0, q .value-is 0, p .value-is 1, q .value-is 1))
 returned-one (Rows x) (Short y) n f p q = absurd (omega (arith, p .number-is, q .number-is))
 returned-one (Refused k) (Rows y) n f p q = absurd (omega (arith, p .value-is 0, q .value-is 0, p .value-is 1, q .value-is 1))
-returned-one (Refused k) (Refused j) n f p q = ap Refused (p .number-is ∙ sym (q .number-is))
+returned-one (Refused k) (Refused j) n f p q = ap (λ (x : ℕ). Refused (record { 0 = x })) (p .number-is ∙ sym (q .number-is))
 returned-one (Refused k) (Short y) n f p q = absurd (omega (arith, p .value-is 0, q .value-is 0, p .value-is 1, q .value-is 1))
 returned-one (Short x) (Rows y) n f p q = absurd (omega (arith, p .number-is, q .number-is))
 returned-one (Short x) (Refused k) n f p q = absurd (omega (arith, p .value-is 0, q .value-is 0, p .value-is 1, q .value-is 1))
@@ -39,7 +41,7 @@ pub output-done : (rows : ℕ) (words out out′ : List ℕ) (a : Answer) → le
 output-done rows words out out′ a h e f = record { short = λ k. absurd (omega arith); done = λ _. (returned-rows a rows e, f) }
 
 module _ (number k rows : ℕ) (words work out : List ℕ) where
-  pub promise-refused : (n : ℕ) → number ≡ n → n ≢ 0 → Promised number k rows words work out work out (Refused n)
+  pub promise-refused : (n : Refusal) → number ≡ n .0 → n .0 ≢ 0 → Promised number k rows words work out work out (Refused n)
   promise-refused n e h = record { refused = λ _. (record { number-is = sym e; value-is = λ v. refl }, (refl, refl)); given = λ z. absurd (h (sym e ∙ z)) }
 
   pub promise-given : (work′ out′ : List ℕ) (a : Answer) → number ≡ 0 → Output rows words out out′ a → work′ ≡ replicate k 0 ++ drop k work

@@ -6,26 +6,27 @@ use Rattle.lhakvuni.specs.declared.answer.Answer.the-variants.{Rows, Ref
 use Rattle.evidence.specs.declared.judged.Judged.{Judged}
 use Rattle.evidence.specs.declared.judged.Judged.the-variants.{Pass, Broken}
 use Rattle.table.specs.Layout.{none}
+use Rattle.table.specs.Refusals.{shortOut}
 use Rattle.lhakvuni.specs.declared.judging.Judgement.{Judgement}
 use Rattle.lhakvuni.specs.declared.judging.Judgement.the-variants.{Passes, Breaks}
 use Rattle.lhakvuni.specs.declared.judging.Judgement.the-variants.{Refused as Refuses}
 
 -- 0 for a success, or the refusal's number
-abbrev pub numberOf : Answer → ℕ
-numberOf (Rows n) = 0
-numberOf (Refused k) = k
-numberOf (Short need) = 10
+abbrev pub answerNumber : Answer → ℕ
+answerNumber (Rows n) = 0
+answerNumber (Refused refusal) = refusal .0
+answerNumber (Short need) = shortOut
 
--- what a call returns beside the number: the rows of a success, the need in words of refusal 10; of any other refusal nothing, and a place
+-- what a call returns beside the number: the rows of a success, the need in words of an output that is too short; of any other refusal nothing, and a place
 -- for it that held v holds v
 abbrev pub valueOf : Answer → ℕ → ℕ
 valueOf (Rows n) v = n
-valueOf (Refused k) v = v
+valueOf (Refused refusal) v = v
 valueOf (Short need) v = need
 
 -- an answer returns a number, and beside it a value: what a place that held v then holds
 pub record Returned (a : Answer) (number : ℕ) (value : ℕ → ℕ) : Type 0 where
-  pub number-is : numberOf a ≡ number
+  pub number-is : answerNumber a ≡ number
   pub value-is : (v : ℕ) → valueOf a v ≡ value v
 
 -- the judgement that a verdict on evidence is
@@ -34,19 +35,19 @@ judgementOf Pass = Passes
 judgementOf (Broken row rule) = Breaks row rule
 
 -- 0 for evidence that was judged, or the refusal's number
-abbrev pub judgedNumber : Judgement → ℕ
-judgedNumber Passes = 0
-judgedNumber (Breaks row rule) = 0
-judgedNumber (Refuses n) = n
+abbrev pub judgementNumber : Judgement → ℕ
+judgementNumber Passes = 0
+judgementNumber (Breaks row rule) = 0
+judgementNumber (Refuses refusal) = refusal .0
 
 -- the type row that breaks a rule, NONE where the evidence passes; of a refusal nothing, and a place for it that held v holds v
 abbrev pub brokenRow : Judgement → ℕ → ℕ
 brokenRow Passes v = none
 brokenRow (Breaks row rule) v = row .0
-brokenRow (Refuses n) v = v
+brokenRow (Refuses refusal) v = v
 
 -- its lowest rule, 0 where the evidence passes
 abbrev pub brokenRule : Judgement → ℕ → ℕ
 brokenRule Passes v = 0
 brokenRule (Breaks row rule) v = rule
-brokenRule (Refuses n) v = v
+brokenRule (Refuses refusal) v = v

@@ -1,23 +1,25 @@
 -- What the calls promise: the checks of each in their order, and what it writes.
 use mathlib.Core.Path.{_≡_}
-use mathlib.Core.Bool.{_&&_, cond}
+use mathlib.Core.Bool.{Bool, _&&_, cond}
 use mathlib.Core.List.{List}
 use Prim.Native.Nat.{ℕ, zero, suc, _*_, _<_}
 use lib.ListN.{length}
 use lib.Dec.{ltb, eqb}
 use Rattle.table.specs.Layout.{typeCount}
-use Rattle.table.specs.WellFormed.{refusal}
+use Rattle.table.specs.Refusals.{noInputObject, wrongEvidence, shortWork}
+use Rattle.wellformed.specs.WellFormed.{refusal}
 use Rattle.records.specs.declared.Record.{Record}
 use Rattle.records.specs.Records.{flat}
-use Rattle.rules.specs.Validation.{records as listOf}
+use Rattle.validation.specs.Validation.{records as listOf}
 use Rattle.chains.specs.Fields.{isInputObject, chainGraph}
+use Rattle.chains.specs.Work.{workWords}
 use Rattle.chains.specs.Answer.{CycleRows, CycleCount}
 use Rattle.evidence.specs.Words.{evidenceWords}
-use Rattle.evidence.specs.Verdict.{judgedOf}
+use Rattle.evidence.specs.Judged.{judgedOf}
 use Rattle.evidence.specs.Canonical.{Canonical}
 use Rattle.lhakvuni.specs.declared.answer.Answer.{Answer}
 use Rattle.lhakvuni.specs.declared.judging.Judgement.{Judgement}
-use Rattle.lhakvuni.specs.Answers.{judgementOf, judgedNumber}
+use Rattle.lhakvuni.specs.Answers.{judgementOf, judgementNumber}
 use Rattle.lhakvuni.specs.Promise.{Promised}
 
 -- a refusal, and else what follows
@@ -25,35 +27,35 @@ abbrev pub orElse : ℕ → ℕ → ℕ
 orElse zero next = next
 orElse (suc n) next = suc n
 
--- 7: first cycle asked for no type, or a kind other than 5
+-- the row is that of an input object
+unfoldable pub inputObjectAt : (w : List ℕ) (t : ℕ) → Bool
+inputObjectAt w t = ltb t (typeCount w) && isInputObject w t
+
+-- first cycle asked for no type, or for one that is no input object
 unfoldable pub rowNumber : (w : List ℕ) (t : ℕ) → ℕ
-rowNumber w t = cond (ltb t (typeCount w) && isInputObject w t) 0 7
+rowNumber w t = cond (inputObjectAt w t) 0 noInputObject
 
--- the words of work that records and first cycle need for each type; making evidence needs as many as it writes
-abbrev pub workWords : ℕ
-workWords = 3
-
--- 9: work table too short, k words for each type
+-- a work table that is too short, k words for each type: `workWords` for records and first cycle, and for making evidence as many as it writes
 unfoldable pub workNumber : (k : ℕ) (w work : List ℕ) → ℕ
-workNumber k w work = cond (ltb (length work) (k * typeCount w)) 9 0
+workNumber k w work = cond (ltb (length work) (k * typeCount w)) shortWork 0
 
--- 8: evidence not exactly 6T words
+-- evidence that has not six words for each type
 unfoldable pub evidenceNumber : (w ev : List ℕ) → ℕ
-evidenceNumber w ev = cond (eqb (length ev) (evidenceWords * typeCount w)) 0 8
+evidenceNumber w ev = cond (eqb (length ev) (evidenceWords * typeCount w)) 0 wrongEvidence
 
--- records: 1 to 6, 9
+-- records: the table's refusals, then the work table
 unfoldable pub recordsNumber : (text w work : List ℕ) → ℕ
 recordsNumber text w work = orElse (refusal text w) (workNumber workWords w work)
 
--- first cycle: 1 to 6, 7, 9
+-- first cycle: the table's refusals, then the row, then the work table
 unfoldable pub cycleNumber : (text w : List ℕ) (t : ℕ) (work : List ℕ) → ℕ
 cycleNumber text w t work = orElse (refusal text w) (orElse (rowNumber w t) (workNumber workWords w work))
 
--- checking evidence: 1 to 6, 8
+-- checking evidence: the table's refusals, then the evidence's length
 unfoldable pub judgeNumber : (text w ev : List ℕ) → ℕ
 judgeNumber text w ev = orElse (refusal text w) (evidenceNumber w ev)
 
--- making evidence: 1 to 6, 9
+-- making evidence: the table's refusals, then the work table
 unfoldable pub makeNumber : (text w work : List ℕ) → ℕ
 makeNumber text w work = orElse (refusal text w) (workNumber evidenceWords w work)
 
@@ -77,7 +79,7 @@ pub record FirstCycleKept (text w : List ℕ) (t : ℕ) (work out work′ out′
 
 -- what `check_evidence` promises: the first refusal's number, and with none the verdict on the evidence; what is lent is only read
 pub record JudgedKept (text w ev : List ℕ) (a : Judgement) : Type 0 where
-  pub number-is : judgedNumber a ≡ judgeNumber text w ev
+  pub number-is : judgementNumber a ≡ judgeNumber text w ev
   pub judged : judgeNumber text w ev ≡ 0 → a ≡ judgementOf (judgedOf w ev)
 
 -- what `make_evidence` promises: the evidence of our producer is written, six words for each type

@@ -5,13 +5,14 @@ use mathlib.Core.Logic.{_≢_}
 use mathlib.Core.List.{List, _++_}
 use Prim.Native.Nat.{ℕ, _≤_, _<_}
 use lib.ListN.{length, drop, replicate}
+use Rattle.table.specs.Refusals.{shortOut}
 use Rattle.lhakvuni.specs.declared.answer.Answer.{Answer}
 use Rattle.lhakvuni.specs.Answers.{Returned}
 
 -- the output after a call that is not refused before it: too short, it is left unchanged and the need in words is returned; else the words
 -- of the rows stand at its start, their number is returned, and the words behind them are left
 pub record Output (rows : ℕ) (words before after : List ℕ) (a : Answer) : Type 0 where
-  pub short : length before < length words → Returned a 10 (λ _. length words) × (after ≡ before)
+  pub short : length before < length words → Returned a shortOut (λ _. length words) × (after ≡ before)
   pub done : length words ≤ length before → Returned a 0 (λ _. rows) × (after ≡ words ++ drop (length words) before)
 
 -- `number` is the first refusal of the checks before the output's, or 0: refused, lent memory is unchanged and only the number is returned;

@@ -1,6 +1,6 @@
 // The calls for C; include/lhakvuni.h says what each pointer must be. A slice is a pointer and then a length.
 ghost use mathlib.Core.Path.{_≡_};
-ghost use Rattle.table.specs.WellFormed.{refusal};
+ghost use Rattle.wellformed.specs.WellFormed.{refusal};
 ghost use Rattle.lhakvuni.specs.Answers.{valueOf, brokenRow, brokenRule};
 ghost use Rattle.lhakvuni.specs.Exports.{RecordsExported, FirstCycleExported, JudgedExported, EvidenceExported};
 use crate::answer::Answer;
@@ -11,7 +11,7 @@ use crate::calls::records;
 use crate::judging::Judgement;
 use crate::judging::check_evidence;
 use crate::making::make_evidence;
-use rows::numbers::TypeRow;
+use table::numbers::TypeRow;
 
 // Puts what an answer returns beside its number in its place, and leaves that alone where there is nothing to return.
 fn put_value(a: Answer, value: &mut u64)
@@ -32,7 +32,7 @@ fn put_value(a: Answer, value: &mut u64)
 pub extern "C" fn lv_check_table(text: &[u8], words: &[u32]) -> u32
     ensures { λ r. ⌜ r ≡ refusal (now (text .entry)) (now (words .entry)) ⌝ }
 {
-    table::check::number(check_table(text, words))
+    wellformed::check::number(check_table(text, words))
 }
 
 #[no_mangle]
@@ -61,7 +61,7 @@ pub extern "C" fn lv_first_cycle(
 ) -> u32
     ensures { λ r. ⌜ FirstCycleExported (now (text .entry)) (now (words .entry)) «type_row» (now (work .entry)) (now (out .entry)) (now (work .exit)) (now (out .exit)) (now (value .entry)) (now (value .exit)) r ⌝ }
 {
-    let a = first_cycle(text, words, type_row, work, out);
+    let a = first_cycle(text, words, TypeRow(type_row), work, out);
     put_value(a, value);
     number(a)
 }

@@ -2,36 +2,37 @@
 ghost use mathlib.Core.Path.{_≡_};
 ghost use Prim.Native.Nat.{_*_, _≤_, _<_};
 ghost use lib.ListN.{length};
-ghost use Rattle.table.specs.WellFormed.{refusal};
-ghost use Rattle.table.specs.Answers.{numberOf as verdictNumber, Proper};
+ghost use Rattle.wellformed.specs.WellFormed.{refusal};
+ghost use Rattle.wellformed.specs.Answers.{verdictNumber, Proper};
 ghost use Rattle.rows.specs.Readable.{SoundRows, Readable};
-ghost use Rattle.records.specs.Records.{Emitted, flat};
-ghost use Rattle.rules.specs.Bounds.{mostRecords};
-ghost use Rattle.rules.specs.Validation.{records as listOf};
+ghost use Rattle.records.specs.Records.{Emitted};
+ghost use Rattle.validation.specs.Bounds.{mostRecords};
+ghost use Rattle.validation.specs.Validation.{records as listOf};
 ghost use Rattle.chains.specs.Fields.{chainGraph};
 ghost use Rattle.chains.specs.Answer.{Helped, Settled};
-ghost use Rattle.lhakvuni.specs.Promise.{Output};
-ghost use Rattle.lhakvuni.specs.Calls.{rowNumber, RecordsKept, FirstCycleKept};
-ghost use Rattle.lhakvuni.specs.Work.{countsIn, CycleOutput};
+ghost use Rattle.lhakvuni.specs.Calls.{inputObjectAt, RecordsKept, FirstCycleKept};
+ghost use Rattle.lhakvuni.specs.Work.{countsIn, RecordsOutput, CycleOutput};
 use crate::answer::Answer;
 use crate::work::count_cycle;
 use crate::work::count_cycles;
 use crate::work::prepare;
 use chains::cycle::clear;
 use chains::fields::is_input_object;
+use chains::work::Work;
 use records::Record;
-use rows::numbers::TypeRow;
-use table::check::Verdict;
 use table::layout::Layout;
 use table::layout::layout_of;
+use table::numbers::TypeRow;
+use table::refusal::Refusal;
 use validation::validate::validate_schema;
+use wellformed::check::Verdict;
 
-// Whether a text and a table are well-formed, or the first refusal of 1 to 6.
+// Whether a text and a table are well-formed, or the first of the table's refusals.
 pub fn check_table(text: &[u8], words: &[u32]) -> Verdict
     ensures { λ r. ⌜ verdictNumber r ≡ refusal (now (text .entry)) (now (words .entry)) ⌝ }
     ensures { λ r. ⌜ Proper r ⌝ }
 {
-    table::check::check_table(text, words)
+    wellformed::check::check_table(text, words)
 }
 
 // The rules, with the counts and the order of the work table.
@@ -41,8 +42,9 @@ fn list_records(text: &[u8], words: &[u32], l: Layout, work: &[u32], out: &mut [
     ensures { λ n. ⌜ Emitted (listOf (now (text .entry)) (now (words .entry)) (countsIn (l .types) (now (work .entry)))) (now (out .entry)) (now (out .exit)) n ⌝ }
     ensures { λ n. ⌜ n ≤ mostRecords ⌝ }
 {
-    let from = l.types;
-    let to = 2 * l.types;
+    let parts = Work { types: l.types };
+    let from = parts.counts_at();
+    let to = parts.order_at();
     validate_schema(text, words, l, &work[to..], &work[from..to], out)
 }
 
@@ -62,7 +64,7 @@ fn count_records(text: &[u8], words: &[u32], l: Layout, work: &[u32], out: &mut 
 fn write_records(text: &[u8], words: &[u32], l: Layout, work: &[u32], out: &mut [u32]) -> Answer
     requires { ⌜ Readable (now text) (now words) l ⌝ }
     requires { ⌜ Helped (now words) l (now work) ⌝ }
-    ensures { λ a. ⌜ Output (length (listOf (now (text .entry)) (now (words .entry)) (countsIn (l .types) (now (work .entry))))) (flat (listOf (now (text .entry)) (now (words .entry)) (countsIn (l .types) (now (work .entry))))) (now (out .entry)) (now (out .exit)) a ⌝ }
+    ensures { λ a. ⌜ RecordsOutput (now (text .entry)) (now (words .entry)) (countsIn (l .types) (now (work .entry))) (now (out .entry)) (now (out .exit)) a ⌝ }
 {
     let rows = count_records(text, words, l, work, out);
     let need = Record::WORDS * rows;
@@ -77,13 +79,13 @@ fn write_records(text: &[u8], words: &[u32], l: Layout, work: &[u32], out: &mut 
 pub fn records(text: &[u8], words: &[u32], work: &mut [u32], out: &mut [u32]) -> Answer
     ensures { λ a. ⌜ RecordsKept (now (text .entry)) (now (words .entry)) (now (work .entry)) (now (out .entry)) (now (work .exit)) (now (out .exit)) a ⌝ }
 {
-    if let Verdict::Refused(n) = check_table(text, words) {
-        return Answer::Refused(n);
+    if let Verdict::Refused(refusal) = check_table(text, words) {
+        return Answer::Refused(refusal);
     }
     let l = layout_of(words);
-    let need = 3 * l.types;
+    let need = Work { types: l.types }.size();
     if work.len() < need {
-        return Answer::Refused(9);
+        return Answer::Refused(Refusal::SHORT_WORK);
     }
     prepare(words, l, work);
     count_cycles(words, l, work);
@@ -92,54 +94,49 @@ pub fn records(text: &[u8], words: &[u32], work: &mut [u32], out: &mut [u32]) ->
     answer
 }
 
-// 7 unless the row is an input object's.
-fn check_row(words: &[u32], l: Layout, row: u32) -> u32
+// The row is that of an input object.
+fn is_input_object_row(words: &[u32], l: Layout, row: TypeRow) -> bool
     requires { ⌜ SoundRows (now words) l ⌝ }
-    ensures { λ r. ⌜ r ≡ rowNumber (now (words .entry)) row ⌝ }
+    ensures { λ r. ⌜ r ≡ inputObjectAt (now (words .entry)) (row .0) ⌝ }
 {
-    if l.types <= row as usize {
-        return 7;
+    if l.types <= row.index() {
+        return false;
     }
-    if is_input_object(words, l, TypeRow(row)) {
-        return 0;
-    }
-    7
+    is_input_object(words, l, row)
 }
 
 // The field rows of the first cycle of an input object, one word each from the start of the output, and none where no chain is closed.
 pub fn first_cycle(
     text: &[u8],
     words: &[u32],
-    row: u32,
+    row: TypeRow,
     work: &mut [u32],
     out: &mut [u32],
 ) -> Answer
-    ensures { λ a. ⌜ FirstCycleKept (now (text .entry)) (now (words .entry)) row (now (work .entry)) (now (out .entry)) (now (work .exit)) (now (out .exit)) a ⌝ }
+    ensures { λ a. ⌜ FirstCycleKept (now (text .entry)) (now (words .entry)) (row .0) (now (work .entry)) (now (out .entry)) (now (work .exit)) (now (out .exit)) a ⌝ }
 {
-    if let Verdict::Refused(n) = check_table(text, words) {
-        return Answer::Refused(n);
-    }
-    let l = layout_of(words);
-    let refusal = check_row(words, l, row);
-    if refusal != 0 {
+    if let Verdict::Refused(refusal) = check_table(text, words) {
         return Answer::Refused(refusal);
     }
-    let room = 3 * l.types;
+    let l = layout_of(words);
+    if !is_input_object_row(words, l, row) {
+        return Answer::Refused(Refusal::NO_INPUT_OBJECT);
+    }
+    let room = Work { types: l.types }.size();
     if work.len() < room {
-        return Answer::Refused(9);
+        return Answer::Refused(Refusal::SHORT_WORK);
     }
     prepare(words, l, work);
-    let answer = write_cycle(words, l, TypeRow(row), work, out);
+    let answer = write_cycle(words, l, row, work, out);
     clear(work, room);
     answer
 }
 
 // Writes the first cycle if it fits.
 fn write_cycle(words: &[u32], l: Layout, t: TypeRow, work: &mut [u32], out: &mut [u32]) -> Answer
-    requires { ⌜ SoundRows (now words) l ⌝ }
+    requires { ⌜ Helped (now words) l (now work) ⌝ }
     requires { ⌜ t .0 < l .types ⌝ }
     requires { ⌜ Settled (chainGraph (now words)) (now work) ⌝ }
-    requires { ⌜ Helped (now words) l (now work) ⌝ }
     ensures { λ a. ⌜ CycleOutput (chainGraph (now (words .entry))) (t .0) (now (out .entry)) (now (out .exit)) a ⌝ }
     ensures { λ a. ⌜ now (work .exit) ≡ now (work .entry) ⌝ }
 {

@@ -1,21 +1,22 @@
 // Evidence from a service that we don't trust: judged, with nothing lent but what is read.
 ghost use mathlib.Core.Path.{_≡_};
 ghost use Rattle.lhakvuni.specs.Calls.{JudgedKept};
-ghost use Rattle.lhakvuni.specs.Answers.{judgementOf, judgedNumber};
+ghost use Rattle.lhakvuni.specs.Answers.{judgementOf, judgementNumber};
 use crate::calls::check_table;
 use evidence::judged::Judged;
-use evidence::row::EvidenceWord;
-use rows::numbers::TypeRow;
-use table::check::Verdict;
+use evidence::row::EvidenceColumn;
 use table::layout::layout_of;
+use table::numbers::TypeRow;
+use table::refusal::Refusal;
+use wellformed::check::Verdict;
 
 pub enum Judgement {
     // Every mark is right.
     Passes,
     // The first type row that breaks a rule, with its lowest rule.
     Breaks { row: TypeRow, rule: u32 },
-    // A refusal, by its number.
-    Refused(u32),
+    // A refusal.
+    Refused(Refusal),
 }
 
 fn answer_of(verdict: Judged) -> Judgement
@@ -29,12 +30,12 @@ fn answer_of(verdict: Judged) -> Judgement
 
 // Document 01's number of a judgement.
 pub fn number(j: Judgement) -> u32
-    ensures { λ r. ⌜ r ≡ judgedNumber j ⌝ }
+    ensures { λ r. ⌜ r ≡ judgementNumber j ⌝ }
 {
     match j {
         Judgement::Passes => 0,
         Judgement::Breaks { row: _, rule: _ } => 0,
-        Judgement::Refused(n) => n,
+        Judgement::Refused(refusal) => refusal.0,
     }
 }
 
@@ -42,12 +43,12 @@ pub fn number(j: Judgement) -> u32
 pub fn check_evidence(text: &[u8], words: &[u32], evidence: &[u32]) -> Judgement
     ensures { λ j. ⌜ JudgedKept (now (text .entry)) (now (words .entry)) (now (evidence .entry)) j ⌝ }
 {
-    if let Verdict::Refused(n) = check_table(text, words) {
-        return Judgement::Refused(n);
+    if let Verdict::Refused(refusal) = check_table(text, words) {
+        return Judgement::Refused(refusal);
     }
     let l = layout_of(words);
-    if evidence.len() != EvidenceWord::COUNT * l.types {
-        return Judgement::Refused(8);
+    if evidence.len() != EvidenceColumn::COUNT * l.types {
+        return Judgement::Refused(Refusal::WRONG_EVIDENCE);
     }
     answer_of(judge::check_evidence(words, l, evidence))
 }

@@ -2,11 +2,11 @@
 // ring lie on a closed chain, and none of the ladder does.
 ghost use Prim.Native.Nat.{_≤_};
 use evidence::judged::Judged;
+use evidence::row::EvidenceColumn;
 use evidence::row::EvidenceWord;
 use evidence::row::marked;
 use judge::check_evidence;
 use producer::make_evidence;
-use rows::numbers::TypeRow;
 use shapes::LADDER_FIELDS;
 use shapes::LADDER_WORDS;
 use shapes::RING_FIELDS;
@@ -16,12 +16,13 @@ use shapes::TEXT;
 use shapes::TYPES;
 use shapes::write_table;
 use shapes::write_text;
-use table::check::Verdict;
-use table::check::check_table;
 use table::layout::layout_of;
 use table::layout::wide;
+use table::numbers::TypeRow;
+use wellformed::check::Verdict;
+use wellformed::check::check_table;
 
-const WORDS: usize = EvidenceWord::COUNT * TYPES;
+const WORDS: usize = EvidenceColumn::COUNT * TYPES;
 
 fn print(n: usize) {
     io::write_all(1, b" ");
@@ -59,11 +60,11 @@ fn print_answer(answer: Judged) {
 }
 
 // One more in a word of the evidence, where that is not NONE.
-fn change(ev: &mut [u32], t: TypeRow, k: EvidenceWord) {
+fn change(ev: &mut [u32], t: TypeRow, k: EvidenceColumn) {
     let at = k.at(t);
     if at < ev.len() {
         let v = ev[at];
-        if v < TypeRow::NONE.0 {
+        if v < EvidenceWord::NONE.0 {
             ev[at] = v + 1;
         }
     }
@@ -75,7 +76,7 @@ fn run(
     text: &[u8],
     words: &[u32],
     t: TypeRow,
-    k: EvidenceWord,
+    k: EvidenceColumn,
     work: &mut [u32],
     out: &mut [u32],
 ) {
@@ -85,7 +86,7 @@ fn run(
         return;
     };
     let l = layout_of(words);
-    let need = EvidenceWord::COUNT * l.types;
+    let need = EvidenceColumn::COUNT * l.types;
     if work.len() < need {
         io::write_all(1, b" no room\n");
         return;
@@ -110,7 +111,7 @@ fn ring(text: &[u8], work: &mut [u32], out: &mut [u32]) {
         text,
         &words,
         TypeRow(700),
-        EvidenceWord::OutDistance,
+        EvidenceColumn::OutDistance,
         work,
         out,
     );
@@ -124,7 +125,7 @@ fn ladder(text: &[u8], work: &mut [u32], out: &mut [u32]) {
         text,
         &words,
         TypeRow(701),
-        EvidenceWord::Number,
+        EvidenceColumn::Number,
         work,
         out,
     );

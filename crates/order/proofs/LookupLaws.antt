@@ -13,7 +13,7 @@ use Rattle.rows.specs.Types.{typeNamed, foundAt}
 use Rattle.rows.proofs.FoundTypes.{found-at, found-nothing, type-named-at, type-named-least}
 use Rattle.order.specs.Order.{nameIn, Ordered}
 use Rattle.order.specs.Rank.{Rank}
-use Rattle.order.proofs.OrderLaws.{below-or-from}
+use Rattle.names.proofs.BoolLaws.{below-or-from}
 
 module _ {w : List ℕ} {l : Layout} (laid : Laid w l) {o : List ℕ} (x : Ordered w (l .types) o) {name r : ℕ} (k : Rank w (l .types) o name r) where
   types-same : l .types ≡ typeCount w

@@ -7,7 +7,8 @@ use native.Mathlib.Nat.{div-lt-self}
 use native.Mathlib.Omega.{arith}
 use Rattle.order.specs.Order.{nameIn, Ordered}
 use Rattle.order.specs.Rank.{Rank, Between}
-use Rattle.order.proofs.OrderLaws.{names-rise, below-or-from}
+use Rattle.names.proofs.BoolLaws.{below-or-from}
+use Rattle.order.proofs.OrderLaws.{names-rise}
 
 pub between-all : (w : List ℕ) (n : ℕ) (o : List ℕ) (name : ℕ) → Between w n o name 0 n
 between-all w n o name = record {

@@ -4,12 +4,12 @@ ghost use Rattle.table.specs.Layout.{Laid};
 ghost use Rattle.rows.specs.Types.{typeNamed, foundAt};
 ghost use Rattle.order.specs.Order.{Ordered, Helps};
 use crate::rank::rank_of;
-use rows::numbers::NameNo;
-use rows::numbers::TypeRow;
 use rows::types::FoundType;
 use rows::types::find_type;
 use rows::types::type_name;
 use table::layout::Layout;
+use table::numbers::NameNo;
+use table::numbers::TypeRow;
 
 // The type of the name, from the order: it can only stand at the name's rank.
 fn find_ordered(words: &[u32], l: Layout, order: &[u32], name: NameNo) -> FoundType
@@ -22,7 +22,7 @@ fn find_ordered(words: &[u32], l: Layout, order: &[u32], name: NameNo) -> FoundT
         return FoundType::Nothing;
     }
     let row = TypeRow(order[at]);
-    if type_name(words, l, row).0 == name.0 {
+    if type_name(words, l, row).same(name) {
         return FoundType::At(row);
     }
     FoundType::Nothing

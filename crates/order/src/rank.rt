@@ -8,10 +8,10 @@ ghost use Prim.Native.Nat.{_-_, _≤_, _<_, min, max};
 ghost use Rattle.table.specs.Layout.{Laid};
 ghost use Rattle.order.specs.Order.{Ordered};
 ghost use Rattle.order.specs.Rank.{Rank, Between};
-use rows::numbers::NameNo;
-use rows::numbers::TypeRow;
 use rows::types::type_name;
 use table::layout::Layout;
+use table::numbers::NameNo;
+use table::numbers::TypeRow;
 
 // The rank is at least low and at most high.
 struct Span {

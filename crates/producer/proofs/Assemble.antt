@@ -7,68 +7,77 @@ use native.Mathlib.Omega.{arith}
 use lib.ListN.{length, getD, take, drop, replicate, length-take}
 use lib.Seq.{getD-take}
 use Rattle.chains.specs.Chains.{Graph}
+use Rattle.chains.specs.Fields.{chainGraph}
 use Rattle.table.specs.declared.layout.Layout.{Layout}
 use Rattle.table.specs.Layout.{none, typeCount}
 use Rattle.order.specs.Order.{Placed}
+use Rattle.evidence.specs.declared.row.EvidenceColumn.{EvidenceColumn}
+use Rattle.evidence.specs.declared.row.EvidenceColumn.the-variants.{Number, Leader, OutField, OutDistance, InField, InDepth}
 use Rattle.evidence.specs.Words.{evidenceWords, number, leader, outField, outDistance, inField, inDepth}
 use Rattle.evidence.specs.Canonical.{Marks, Marks.on, Marks.off, Row, Canonical}
+use Rattle.chains.specs.Work.{orderAt}
 use Rattle.producer.specs.Search.{Cleared}
-use Rattle.producer.specs.Produced.{Filled, NumberIs, LeaderIs, DistanceIs, DepthIs, OutIs, InIs, Numbered, Measured, Filling, Ranked, Leveled, Whole, Passed, Rooms, Made}
+use Rattle.producer.specs.Produced.{Filled, NumberIs, LeaderIs, WordIs, Right, AllRight, measures, ranks, levels, Filling, Whole, PassKept, Rooms, Made}
 use Rattle.rows.specs.Readable.{SoundRows}
 use Rattle.evidence.proofs.ChainLaws.{chained}
-use Rattle.evidence.proofs.TestLaws.{same-or-not}
 use Rattle.evidence.proofs.Unique.{Agree, agree-back}
 use Rattle.producer.proofs.Reach.{zeros-cleared}
 use Rattle.producer.proofs.Lookups.{helped-kept}
 use Rattle.chains.proofs.HelpLaws.{rest-behind}
 use Rattle.producer.proofs.PassLaws.{led-on, led-off, led-kept, numbered-kept, leader-kept, word-as, cleared-join}
 use Rattle.producer.proofs.ChoiceLaws.{word-none, word-some, measured-kept, column-agree, out-as, in-as}
+use Rattle.chains.proofs.Marks.{same-or-not}
 
 module _ (g : Graph) where
   -- a pass over every row
-  abbrev Pass : ℕ → (ℕ → ℕ → Type 0) → List ℕ → List ℕ → Type 0
-  Pass c Is W X = Filled c (g .types) (g .types) Is W X
+  abbrev Pass : EvidenceColumn → List ℕ → List ℕ → Type 0
+  Pass k W X = Filled g k (g .types) W X
 
   -- after the first pass the numbers are right
-  pub numbered : {W X : List ℕ} → Pass 0 (NumberIs g) W X → Numbered g X
+  pub numbered : {W X : List ℕ} → Pass Number W X → Right g Number X
   numbered f t l = f .words t l
 
   -- after the second, so are the leaders
-  pub ranked : {O X Y W W′ W″ : List ℕ} → Pass 0 (NumberIs g) O X → Pass 1 (LeaderIs g) X Y → Cleared (2 * g .types) W W′ → Cleared (2 * g .types) W′ W″
-      → Passed (g .types) (Ranked g) O Y W W″
+  pub ranked : {O X Y W W′ W″ : List ℕ} → Pass Number O X → Pass Leader X Y → Cleared (orderAt (g .types)) W W′ → Cleared (orderAt (g .types)) W′ W″
+      → PassKept (g .types) (AllRight g ranks) O Y W W″
   ranked f₀ f₁ c d =
       record {
-        right = record { numbers = numbered-kept g (f₁ .column) (omega arith) (numbered f₀); leaders = f₁ .words };
+        right = (numbered-kept g (f₁ .column) (omega arith) (numbered f₀), (f₁ .words, tt));
         size = f₁ .column .size ∙ f₀ .column .size;
         rest = f₁ .column .rest ∙ f₀ .column .rest;
         cleared = cleared-join c d;
       }
 
   -- with the leaders, distances and depths
-  pub leveled : {O X Y W W′ W″ : List ℕ} → Ranked g O → Pass 3 (DistanceIs g O) O X → Pass 5 (DepthIs g X) X Y → Cleared (2 * g .types) W W′ → Cleared (2 * g .types) W′ W″
-      → Passed (g .types) (Leveled g) O Y W W″
+  pub leveled : {O X Y W W′ W″ : List ℕ} → AllRight g ranks O → Pass OutDistance O X → Pass InDepth X Y → Cleared (orderAt (g .types)) W W′ → Cleared (orderAt (g .types)) W′ W″
+      → PassKept (g .types) (AllRight g levels) O Y W W″
   leveled {O} {X} {Y} h f₃ f₅ c d =
       record {
-        right = record {
-          numbers = numbered-kept g (f₅ .column) (omega arith) (numbered-kept g (f₃ .column) (omega arith) (h .numbers));
-          measured = record {
-            leaders = led-kept g (f₅ .column) (omega arith) (led-kept g (f₃ .column) (omega arith) (h .leaders));
-            distances = λ t l.
-                let e : leader Y t ≡ leader O t = leader-kept g (f₅ .column) (omega arith) t ∙ leader-kept g (f₃ .column) (omega arith) t in
-                rw (f₅ .column .others t 3 (omega arith) (omega arith)) (word-as (sym e) (λ p. rw e p) (f₃ .words t l));
-            depths = λ t l.
-                let e : leader Y t ≡ leader X t = leader-kept g (f₅ .column) (omega arith) t in
-                word-as (sym e) (λ p. rw e p) (f₅ .words t l);
-          };
-        };
+        right = (
+          numbered-kept g (f₅ .column) (omega arith) (numbered-kept g (f₃ .column) (omega arith) (h .0)),
+          (
+            led-kept g (f₅ .column) (omega arith) (led-kept g (f₃ .column) (omega arith) (h .1 .0)),
+            (
+              λ t l.
+                  let e : leader Y t ≡ leader O t = leader-kept g (f₅ .column) (omega arith) t ∙ leader-kept g (f₃ .column) (omega arith) t in
+                  rw (f₅ .column .others t 3 (omega arith) (omega arith)) (word-as (sym e) (λ p. rw e p) (f₃ .words t l)),
+              (
+                λ t l.
+                    let e : leader Y t ≡ leader X t = leader-kept g (f₅ .column) (omega arith) t in
+                    word-as (sym e) (λ p. rw e p) (f₅ .words t l),
+                tt,
+              ),
+            ),
+          ),
+        );
         size = f₅ .column .size ∙ f₃ .column .size;
         rest = f₅ .column .rest ∙ f₃ .column .rest;
         cleared = cleared-join c d;
       }
 
   -- a row from its words
-  row-of : (ev : List ℕ) (t : ℕ) → g .types ≤ none → NumberIs g t (number ev t) → LeaderIs g t (leader ev t) → DistanceIs g ev t (outDistance ev t)
-      → DepthIs g ev t (inDepth ev t) → OutIs g ev t (outField ev t) → InIs g ev t (inField ev t) → Row g ev t
+  row-of : (ev : List ℕ) (t : ℕ) → g .types ≤ none → NumberIs g t (number ev t) → LeaderIs g t (leader ev t) → WordIs g OutDistance ev t (outDistance ev t)
+      → WordIs g InDepth ev t (inDepth ev t) → WordIs g OutField ev t (outField ev t) → WordIs g InField ev t (inField ev t) → Row g ev t
   row-of ev t small n h d p o i = record { number-word = n; marks = ⊎-elim none-row some-row (same-or-not (leader ev t) none) }
     where
       none-row : leader ev t ≡ none → Marks g ev t
@@ -97,8 +106,8 @@ module _ (g : Graph) where
             in-word = word-some i m .1;
           })
 
-  module _ (Z U W : List ℕ) (small : g .types ≤ none) (room : evidenceWords * g .types ≤ length W) (numbers : Numbered g Z) (m : Measured g Z)
-      (f₂ : Pass 2 (OutIs g Z) Z U) (f₄ : Pass 4 (InIs g U) U W) where
+  module _ (Z U W : List ℕ) (small : g .types ≤ none) (room : evidenceWords * g .types ≤ length W) (numbers : Right g Number Z) (m : AllRight g measures Z)
+      (f₂ : Pass OutField Z U) (f₄ : Pass InField U W) where
     ev : List ℕ
     ev = take (evidenceWords * g .types) W
 
@@ -124,19 +133,19 @@ module _ (g : Graph) where
     from-U = column-agree g (f₄ .column) (omega arith) (omega arith) (omega arith)
 
     -- what was right is right at the end
-    numbers-W : Numbered g W
+    numbers-W : Right g Number W
     numbers-W = numbered-kept g (f₄ .column) (omega arith) (numbered-kept g (f₂ .column) (omega arith) numbers)
 
-    measured-W : Measured g W
+    measured-W : AllRight g measures W
     measured-W = measured-kept g (f₄ .column) (omega arith) (omega arith) (omega arith) (measured-kept g (f₂ .column) (omega arith) (omega arith) (omega arith) m)
 
     -- the fields, read at the end
-    out-word : (t : ℕ) → t < g .types → OutIs g ev t (outField ev t)
+    out-word : (t : ℕ) → t < g .types → WordIs g OutField ev t (outField ev t)
     out-word t l =
         rw (at t 2 l (omega arith), f₄ .column .others t 2 (omega arith) (omega arith))
         (out-as g front t _ l (out-as g (agree-back from-U) t _ l (out-as g (agree-back from-Z) t _ l (f₂ .words t l))))
 
-    in-word : (t : ℕ) → t < g .types → InIs g ev t (inField ev t)
+    in-word : (t : ℕ) → t < g .types → WordIs g InField ev t (inField ev t)
     in-word t l = rw (at t 4 l (omega arith)) (in-as g front t _ l (in-as g (agree-back from-U) t _ l (f₄ .words t l)))
 
     -- every row
@@ -145,9 +154,9 @@ module _ (g : Graph) where
         let e = at t 1 l (omega arith) in
         row-of ev t small
         (rw (at t 0 l (omega arith)) (numbers-W t l))
-        (rw e (measured-W .leaders t l))
-        (rw (at t 3 l (omega arith)) (word-as (sym e) (λ p. rw e p) (measured-W .distances t l)))
-        (rw (at t 5 l (omega arith)) (word-as (sym e) (λ p. rw e p) (measured-W .depths t l)))
+        (rw e (measured-W .0 t l))
+        (rw (at t 3 l (omega arith)) (word-as (sym e) (λ p. rw e p) (measured-W .1 .0 t l)))
+        (rw (at t 5 l (omega arith)) (word-as (sym e) (λ p. rw e p) (measured-W .1 .1 .0 t l)))
         (out-word t l)
         (in-word t l)
 
@@ -162,13 +171,13 @@ module _ (g : Graph) where
     assembled = record { size = ev-size; row = row }
 
 -- with all of these, the fields
-pub fitted : (g : Graph) {O X Y W W′ W″ : List ℕ} → g .types ≤ none → evidenceWords * g .types ≤ length O → Leveled g O
-    → Filled 2 (g .types) (g .types) (OutIs g O) O X → Filled 4 (g .types) (g .types) (InIs g X) X Y
-    → Cleared (2 * g .types) W W′ → Cleared (2 * g .types) W′ W″ → Passed (g .types) (Whole g) O Y W W″
+pub fitted : (g : Graph) {O X Y W W′ W″ : List ℕ} → g .types ≤ none → evidenceWords * g .types ≤ length O → AllRight g levels O
+    → Filled g OutField (g .types) O X → Filled g InField (g .types) X Y
+    → Cleared (orderAt (g .types)) W W′ → Cleared (orderAt (g .types)) W′ W″ → PassKept (g .types) (Whole g) O Y W W″
 fitted g {O} {X} {Y} few room h f₂ f₄ c d =
     let size : length Y ≡ length O = f₄ .column .size ∙ f₂ .column .size in
     record {
-      right = assembled g O X Y few (omega arith) (h .numbers) (h .measured) f₂ f₄;
+      right = assembled g O X Y few (omega arith) (h .0) (h .1) f₂ f₄;
       size = size;
       rest = f₄ .column .rest ∙ f₂ .column .rest;
       cleared = cleared-join c d;
@@ -176,14 +185,14 @@ fitted g {O} {X} {Y} few room h f₂ f₄ c d =
 
 -- before the passes the words of the search are cleared, and the types are sorted in those behind
 module _ {w : List ℕ} {l : Layout} {O W Y : List ℕ} (s : SoundRows w l) (r : Rooms (typeCount w) W O)
-    (e : Y ≡ replicate (2 * l .types) 0 ++ drop (2 * l .types) W) where
-  cleared-first : Cleared (2 * typeCount w) W Y
-  cleared-first = let m = r .work-room in rw (e, chained s .types) (zeros-cleared (2 * typeCount w) W (omega arith))
+    (e : Y ≡ replicate (orderAt (l .types)) 0 ++ drop (orderAt (l .types)) W) where
+  cleared-first : Cleared (orderAt (typeCount w)) W Y
+  cleared-first = let m = r .work-room in rw (e, chained s .types) (zeros-cleared (orderAt (typeCount w)) W (omega arith))
 
   pub first-room : evidenceWords * l .types ≤ length Y
   first-room = omega (arith, r .work-room, cleared-first .size, chained s .types)
 
-  module _ {X : List ℕ} (there : Placed w (l .types) (2 * l .types) Y X) where
+  module _ {X : List ℕ} (there : Placed w (l .types) (orderAt (l .types)) Y X) where
     -- so the passes may begin
     pub filling-first : Filling w l X O
     filling-first =
@@ -191,14 +200,13 @@ module _ {w : List ℕ} {l : Layout} {O W Y : List ℕ} (s : SoundRows w l) (r :
         let c = cleared-first .clear in
         let z = there .same-length in
         record {
-          chained = chained s;
           clear = record { room = omega (arith, c .room); zero = λ i k. there .front i (omega arith) ∙ c .zero i k };
-          help = record { room = omega (arith, c .room); help = record { ordered = λ _. there .ordered } };
+          help = record { room = omega (arith, c .room); indexed = record { rows = s; helps = record { ordered = λ _. there .ordered } } };
           room = r .out-room;
         }
 
     -- after them both are cleared, and the words behind are those of the start
-    module _ {Z : List ℕ} (c : Cleared (2 * typeCount w) X Z) where
+    module _ {Z : List ℕ} (c : Cleared (orderAt (typeCount w)) X Z) where
       pub last-size : length Z ≡ length W
       last-size = c .size ∙ there .same-length ∙ cleared-first .size
 
@@ -207,30 +215,30 @@ module _ {w : List ℕ} {l : Layout} {O W Y : List ℕ} (s : SoundRows w l) (r :
       cleared-last =
           let t = chained s .types in
           let end : ℕ = evidenceWords * typeCount w in
-          let x : drop end Z ≡ drop end X = rest-behind (2 * typeCount w) end X Z (omega arith) (c .rest) in
-          let y : drop end X ≡ drop end Y = rest-behind (2 * l .types + l .types) end Y X (omega arith) (there .behind) in
-          let z : drop end Y ≡ drop end W = rest-behind (2 * typeCount w) end W Y (omega arith) (cleared-first .rest) in
+          let x : drop end Z ≡ drop end X = rest-behind (orderAt (typeCount w)) end X Z (omega arith) (c .rest) in
+          let y : drop end X ≡ drop end Y = rest-behind (orderAt (l .types) + l .types) end Y X (omega arith) (there .behind) in
+          let z : drop end Y ≡ drop end W = rest-behind (orderAt (typeCount w)) end W Y (omega arith) (cleared-first .rest) in
           rw (t, x ∙ y ∙ z) refl
 
 -- a pass leaves room for the next
-pub filling-after : {w : List ℕ} {l : Layout} {Right : List ℕ → Type 0} {O X W Y : List ℕ} → Filling w l W O → Passed (typeCount w) Right O X W Y → Filling w l Y X
+pub filling-after : {w : List ℕ} {l : Layout} {Right : List ℕ → Type 0} {O X W Y : List ℕ} → Filling w l W O → PassKept (typeCount w) Right O X W Y → Filling w l Y X
 filling-after f p =
     let e = p .size in
     let r = f .room in
-    record { chained = f .chained; clear = p .cleared .clear; help = helped-kept (f .chained .types) (f .help) _ (p .cleared .size) (p .cleared .rest); room = omega arith }
+    record { clear = p .cleared .clear; help = helped-kept (f .help) _ (p .cleared .size) (p .cleared .rest); room = omega arith }
 
 -- the same after one pass
-pub filling-next : {w : List ℕ} {l : Layout} {c : ℕ} {Is : ℕ → ℕ → Type 0} {O X W Y : List ℕ} → Filling w l W O
-    → Filled c (typeCount w) (typeCount w) Is O X → Cleared (2 * typeCount w) W Y → Filling w l Y X
+pub filling-next : {w : List ℕ} {l : Layout} {k : EvidenceColumn} {O X W Y : List ℕ} → Filling w l W O
+    → Filled (chainGraph w) k (typeCount w) O X → Cleared (orderAt (typeCount w)) W Y → Filling w l Y X
 filling-next f p c =
     let e = p .column .size in
     let r = f .room in
-    record { chained = f .chained; clear = c .clear; help = helped-kept (f .chained .types) (f .help) _ (c .size) (c .rest); room = omega arith }
+    record { clear = c .clear; help = helped-kept (f .help) _ (c .size) (c .rest); room = omega arith }
 
 -- one after the other they are as one
-pub passed-join : {n : ℕ} {A B : List ℕ → Type 0} {O X Y W W′ W″ : List ℕ} → Passed n A O X W W′ → Passed n B X Y W′ W″ → Passed n B O Y W W″
+pub passed-join : {n : ℕ} {A B : List ℕ → Type 0} {O X Y W W′ W″ : List ℕ} → PassKept n A O X W W′ → PassKept n B X Y W′ W″ → PassKept n B O Y W W″
 passed-join a b = record { right = b .right; size = b .size ∙ a .size; rest = b .rest ∙ a .rest; cleared = cleared-join (a .cleared) (b .cleared) }
 
 -- and make the table
-pub made : (g : Graph) {O X W Y : List ℕ} → Passed (g .types) (Whole g) O X W Y → Made g O X
+pub made : (g : Graph) {O X W Y : List ℕ} → PassKept (g .types) (Whole g) O X W Y → Made g O X
 made g p = record { canonical = p .right; size = p .size; rest = p .rest }

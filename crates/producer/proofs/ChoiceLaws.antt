@@ -7,34 +7,35 @@ use Prim.Native.Nat.{ℕ, suc, zero, _+_, _-_, _≤_, _<_}
 use native.Mathlib.Omega.{arith}
 use Rattle.chains.specs.Chains.{Graph, Chain}
 use Rattle.table.specs.Layout.{none}
+use Rattle.evidence.specs.declared.row.EvidenceColumn.the-variants.{OutField, InField}
 use Rattle.evidence.specs.Words.{leader}
 use Rattle.evidence.specs.Rules.{nearer, chainField, goesOut, comesIn}
-use Rattle.evidence.specs.Chained.{Rising}
-use Rattle.evidence.proofs.ChainLaws.{comes-not}
-use Rattle.names.proofs.BoolLaws.{true-false, and3}
+use Rattle.evidence.proofs.ChainLaws.{Rising, comes-not}
+use Rattle.names.proofs.BoolLaws.{true-false, and3, below-or-from}
 use Rattle.evidence.specs.Canonical.{Least}
-use Rattle.producer.specs.Produced.{Word, Word.unmarked, Word.marked, OutIs, InIs, InFrom, InFrom.nothing, InFrom.lowest, Column, Measured}
-use Rattle.evidence.proofs.TestLaws.{same-or-not, below-or-not, any-at, any-of}
+use Rattle.producer.specs.Produced.{IfMarked, IfMarked.unmarked, IfMarked.marked, WordIs, AllRight, measures, InFrom, InFrom.nothing, InFrom.lowest, OnlyColumn}
+use Rattle.evidence.proofs.TestLaws.{any-at, any-of}
 use Rattle.evidence.proofs.Kept.{chain-at, out-at, out-true, in-true}
 use Rattle.evidence.proofs.Exists.{Half, Nothing, out-some, in-some}
 use Rattle.producer.proofs.PassLaws.{led-on, led-off, led-kept, word-as}
 use Rattle.evidence.proofs.Counts.{least-as}
 use Rattle.evidence.proofs.Unique.{Agree, agree-back, goes-same, comes-same}
+use Rattle.chains.proofs.Marks.{same-or-not}
 
 -- the word of an unmarked type, and of a marked one
-pub word-none : {ev : List ℕ} {t v : ℕ} {P : ℕ → Type 0} → Word ev t P v → leader ev t ≡ none → v ≡ none
+pub word-none : {ev : List ℕ} {t v : ℕ} {P : ℕ → Type 0} → IfMarked ev t P v → leader ev t ≡ none → v ≡ none
 word-none (unmarked n) e = refl
 word-none (marked n p) e = absurd (n e)
 
-pub word-some : {ev : List ℕ} {t v : ℕ} {P : ℕ → Type 0} → Word ev t P v → leader ev t ≢ none → P v
+pub word-some : {ev : List ℕ} {t v : ℕ} {P : ℕ → Type 0} → IfMarked ev t P v → leader ev t ≢ none → P v
 word-some (unmarked e) n = absurd (n e)
 word-some (marked m p) n = p
 
 -- a number below which nothing has P is the least
 least-at : {P : ℕ → Type 0} {f : ℕ} → P f → ((h : ℕ) → h < f → P h → ⊥) → Least P f
-least-at {P} {f} p below = record { holds = p; least = λ m q. ⊎-elim (λ l. absurd (below m l q)) (λ (l : f ≤ m). l) (below-or-not m f) }
+least-at {P} {f} p below = record { holds = p; least = λ m q. ⊎-elim (λ l. absurd (below m l q)) (λ (l : f ≤ m). l) (below-or-from m f) }
 
-module _ (g : Graph) (small : g .types ≤ none) (ev : List ℕ) (measured : Measured g ev) where
+module _ (g : Graph) (small : g .types ≤ none) (ev : List ℕ) (measured : AllRight g measures ev) where
   -- what `Exists` asks of a table
   pub measured-known : (t : ℕ) → t < g .types → Half g ev t ⊎ Nothing g ev t
   measured-known t l =
@@ -42,19 +43,19 @@ module _ (g : Graph) (small : g .types ≤ none) (ev : List ℕ) (measured : Mea
       (λ (e : leader ev t ≡ none).
       inr
       (record {
-        not-closed = led-off g small (measured .leaders t l) e;
+        not-closed = led-off g small (measured .0 t l) e;
         leader-none = e;
-        distance-none = word-none (measured .distances t l) e;
-        depth-none = word-none (measured .depths t l) e;
+        distance-none = word-none (measured .1 .0 t l) e;
+        depth-none = word-none (measured .1 .1 .0 t l) e;
       }))
       (λ n.
-      let (c, m) = led-on g (measured .leaders t l) n in
+      let (c, m) = led-on g (measured .0 t l) n in
       inl
       (record {
         closed = c;
         leader-word = m;
-        distance-word = word-some (measured .distances t l) n;
-        depth-word = word-some (measured .depths t l) n;
+        distance-word = word-some (measured .1 .0 t l) n;
+        depth-word = word-some (measured .1 .1 .0 t l) n;
       }))
       (same-or-not (leader ev t) none)
 
@@ -83,7 +84,7 @@ module _ (g : Graph) (ev : List ℕ) where
   out-before t h l e = let k = out-at g ev t h e .field .low in omega arith
 
   -- the first that fits
-  pub out-first : (t f : ℕ) → leader ev t ≢ none → goesOut g ev t f ≡ true → ((h : ℕ) → h < f → goesOut g ev t h ≡ true → ⊥) → OutIs g ev t f
+  pub out-first : (t f : ℕ) → leader ev t ≢ none → goesOut g ev t f ≡ true → ((h : ℕ) → h < f → goesOut g ev t h ≡ true → ⊥) → WordIs g OutField ev t f
   out-first t f n e below = marked n (least-at e below)
 
   -- a field by which t is entered is a chain field
@@ -125,12 +126,12 @@ module _ (g : Graph) (ev : List ℕ) where
       rw q (omega arith)
 
   -- a leader has none
-  pub in-leads : (t : ℕ) → leader ev t ≢ none → leader ev t ≡ t → InIs g ev t none
+  pub in-leads : (t : ℕ) → leader ev t ≢ none → leader ev t ≡ t → WordIs g InField ev t none
   in-leads t n e = marked n (λ _. refl, λ d. absurd (d e))
 
   -- the first that fits, of all types
   pub in-first : Rising g → (t s r : ℕ) → s < g .types → leader ev t ≢ none → leader ev t ≢ t
-      → ((q : ℕ) → q < s → (f : ℕ) → comesIn g ev t f q ≡ true → ⊥) → InFrom g ev t s r → r ≢ none → InIs g ev t r
+      → ((q : ℕ) → q < s → (f : ℕ) → comesIn g ev t f q ≡ true → ⊥) → InFrom g ev t s r → r ≢ none → WordIs g InField ev t r
   in-first rising t s r l n d before i m =
       let k : Least (λ f. comesIn g ev t f s ≡ true) r = from-least i m in
       let high = comes-chain t r s (k .holds) .high in
@@ -153,16 +154,16 @@ module _ (g : Graph) (ev : List ℕ) where
                   let w′ : g .stop s ≤ g .start q = rw z w in
                   omega arith)
                   (same-or-not q s))
-                  (below-or-not q s);
+                  (below-or-from q s);
             },
       )
 
 -- the fields that fit depend on leaders, distances and depths alone
 module _ (g : Graph) {W X : List ℕ} (a : Agree (g .types) X W) (t v : ℕ) (l : t < g .types) where
-  pub out-as : OutIs g X t v → OutIs g W t v
+  pub out-as : WordIs g OutField X t v → WordIs g OutField W t v
   out-as = word-as (a .leaders t l) (least-as (goes-same g a t l) (goes-same g (agree-back a) t l))
 
-  pub in-as : InIs g X t v → InIs g W t v
+  pub in-as : WordIs g InField X t v → WordIs g InField W t v
   in-as =
       let e = a .leaders t l in
       word-as e
@@ -172,7 +173,7 @@ module _ (g : Graph) {W X : List ℕ} (a : Agree (g .types) X W) (t v : ℕ) (l 
       ))
 
 -- what a pass over a field's column leaves as it was
-module _ (g : Graph) {c n : ℕ} {W X : List ℕ} (k : Column c n W X) (c₁ : 1 ≢ c) (c₃ : 3 ≢ c) (c₅ : 5 ≢ c) where
+module _ (g : Graph) {c n : ℕ} {W X : List ℕ} (k : OnlyColumn c n W X) (c₁ : 1 ≢ c) (c₃ : 3 ≢ c) (c₅ : 5 ≢ c) where
   -- leaders, distances and depths
   pub column-agree : Agree (g .types) X W
   column-agree =
@@ -183,21 +184,25 @@ module _ (g : Graph) {c n : ℕ} {W X : List ℕ} (k : Column c n W X) (c₁ : 1
       }
 
   -- so what is right stays right
-  pub measured-kept : Measured g W → Measured g X
-  measured-kept m =
-      record {
-        leaders = led-kept g k c₁ (m .leaders);
-        distances = λ t l.
+  pub measured-kept : AllRight g measures W → AllRight g measures X
+  measured-kept m = (
+    led-kept g k c₁ (m .0),
+    (
+      λ t l.
+          let e = k .others t 1 (omega arith) c₁ in
+          rw (k .others t 3 (omega arith) c₃) (word-as (sym e) (λ p. rw e p) (m .1 .0 t l)),
+      (
+        λ t l.
             let e = k .others t 1 (omega arith) c₁ in
-            rw (k .others t 3 (omega arith) c₃) (word-as (sym e) (λ p. rw e p) (m .distances t l));
-        depths = λ t l.
-            let e = k .others t 1 (omega arith) c₁ in
-            rw (k .others t 5 (omega arith) c₅) (word-as (sym e) (λ p. rw e p) (m .depths t l));
-      }
+            rw (k .others t 5 (omega arith) c₅) (word-as (sym e) (λ p. rw e p) (m .1 .1 .0 t l)),
+        tt,
+      ),
+    ),
+  )
 
   -- and what is asked stays the same
-  pub out-kept : (t v : ℕ) → t < g .types → OutIs g X t v → OutIs g W t v
+  pub out-kept : (t v : ℕ) → t < g .types → WordIs g OutField X t v → WordIs g OutField W t v
   out-kept t v l = out-as g column-agree t v l
 
-  pub in-kept : (t v : ℕ) → t < g .types → InIs g X t v → InIs g W t v
+  pub in-kept : (t v : ℕ) → t < g .types → WordIs g InField X t v → WordIs g InField W t v
   in-kept t v l = in-as g column-agree t v l

@@ -3,15 +3,15 @@ use mathlib.Core.List.{List}
 use Prim.Native.Nat.{ℕ, _<_}
 use native.Mathlib.Omega.{arith}
 use Rattle.chains.specs.Chains.{Graph}
-use Rattle.evidence.specs.declared.row.EvidenceWord.{EvidenceWord}
-use Rattle.evidence.specs.declared.row.EvidenceWord.the-variants.{Number, Leader, OutField, OutDistance, InField, InDepth}
+use Rattle.evidence.specs.declared.row.EvidenceColumn.{EvidenceColumn}
+use Rattle.evidence.specs.declared.row.EvidenceColumn.the-variants.{Number, Leader, OutField, OutDistance, InField, InDepth}
 use Rattle.evidence.specs.Words.{evidenceWords, placeOf}
-use Rattle.producer.specs.Produced.{Column, Known, WordIs}
+use Rattle.producer.specs.Produced.{OnlyColumn, WordIs, AllRight, foundFrom}
 use Rattle.producer.proofs.PassLaws.{numbered-kept, led-kept, distance-kept, depth-kept}
 use Rattle.producer.proofs.ChoiceLaws.{measured-kept, out-kept, in-kept}
 
 -- a word stands within its row
-pub place-low : (k : EvidenceWord) → placeOf k < evidenceWords
+pub place-low : (k : EvidenceColumn) → placeOf k < evidenceWords
 place-low Number = omega arith
 place-low Leader = omega arith
 place-low OutDistance = omega arith
@@ -20,15 +20,15 @@ place-low OutField = omega arith
 place-low InField = omega arith
 
 module _ (g : Graph) {n : ℕ} {W X : List ℕ} where
-  pub known-kept : (k : EvidenceWord) → Column (placeOf k) n W X → Known g k W → Known g k X
+  pub known-kept : (k : EvidenceColumn) → OnlyColumn (placeOf k) n W X → AllRight g (foundFrom k) W → AllRight g (foundFrom k) X
   known-kept Number c h = h
-  known-kept Leader c h = numbered-kept g c (omega arith) h
-  known-kept OutDistance c h = led-kept g c (omega arith) h
-  known-kept InDepth c h = led-kept g c (omega arith) h
+  known-kept Leader c h = (numbered-kept g c (omega arith) (h .0), tt)
+  known-kept OutDistance c h = (led-kept g c (omega arith) (h .0), tt)
+  known-kept InDepth c h = (led-kept g c (omega arith) (h .0), tt)
   known-kept OutField c h = measured-kept g c (omega arith) (omega arith) (omega arith) h
   known-kept InField c h = measured-kept g c (omega arith) (omega arith) (omega arith) h
 
-  pub word-kept : (k : EvidenceWord) → Column (placeOf k) n W X → (t v : ℕ) → t < g .types → WordIs g k X t v → WordIs g k W t v
+  pub word-kept : (k : EvidenceColumn) → OnlyColumn (placeOf k) n W X → (t v : ℕ) → t < g .types → WordIs g k X t v → WordIs g k W t v
   word-kept Number c t v l h = h
   word-kept Leader c t v l h = h
   word-kept OutDistance c t v l h = distance-kept g c (omega arith) t v h

@@ -9,35 +9,34 @@ use lib.ListN.{length, getD, drop}
 use Rattle.chains.specs.Chains.{Graph, Chain}
 use Rattle.evidence.specs.Reaches.{Reaches}
 use Rattle.evidence.specs.Canonical.{Way, Way.here, Way.more}
-use Rattle.producer.specs.Search.{MarkedIn, Listed, Grown, Visited, Searched}
-use Rattle.evidence.proofs.TestLaws.{below-or-not, last-or-below}
+use Rattle.chains.specs.Work.{orderAt}
+use Rattle.producer.specs.Search.{levelOf, MarkedIn, listedType, MarksListed, Grown, Visited, Searched}
+use Rattle.evidence.proofs.TestLaws.{last-or-below}
 use Rattle.evidence.proofs.Marks.{reach-end}
 use Rattle.evidence.proofs.Ways.{way-zero, way-reaches, reaches-way, way-last, way-snoc}
 use Rattle.producer.proofs.Reach.{count-as, grown-marks}
+use Rattle.names.proofs.BoolLaws.{below-or-from}
 
--- the i-th type of the list, and its level
-abbrev pub entry : ℕ → List ℕ → ℕ → ℕ
-entry types X i = getD X (types + i) 0
-
+-- the level of a type of the list
 abbrev pub level : ℕ → List ℕ → ℕ → ℕ
-level types X i = getD X (entry types X i) 0
+level types X i = levelOf X (listedType types X i)
 
 -- levels stay
-level-kept : {types n m : ℕ} {X Y : List ℕ} → Listed types X n → Grown types X n Y m → (i : ℕ) → i < n → level types Y i ≡ level types X i
-level-kept {types} {n} {m} {X} {Y} h g i l = ap (λ (v : ℕ). getD Y v 0) (g .same i l) ∙ g .kept (entry types X i) (h .types-only i l) (h .marked i l)
+level-kept : {types n m : ℕ} {X Y : List ℕ} → MarksListed types X n → Grown types X n Y m → (i : ℕ) → i < n → level types Y i ≡ level types X i
+level-kept {types} {n} {m} {X} {Y} h g i l = ap (λ (v : ℕ). getD Y v 0) (g .same i l) ∙ g .kept (listedType types X i) (h .types-only i l) (h .marked i l)
 
 module _ (g : Graph) where
   -- the search so far, since the fields of t were walked: those of the types listed below `head` were, too
   pub record Searching (t : ℕ) (W : List ℕ) (head : ℕ) (X : List ℕ) (n : ℕ) : Type 0 where
-    pub listed : Listed (g .types) X n
+    pub listed : MarksListed (g .types) X n
     pub sorted : (i j : ℕ) → i ≤ j → j < n → level (g .types) X i ≤ level (g .types) X j
     pub ahead : head < n → (j : ℕ) → j < n → level (g .types) X j ≤ level (g .types) X head + 1
     pub small : (j : ℕ) → j < n → level (g .types) X j ≤ j + 1
     pub start : (f u : ℕ) → Chain g t f u → MarkedIn X u × (getD X u 0 ≤ 1)
-    pub done : (i : ℕ) → i < head → (f u : ℕ) → Chain g (entry (g .types) X i) f u → MarkedIn X u × (getD X u 0 ≤ level (g .types) X i + 1)
+    pub done : (i : ℕ) → i < head → (f u : ℕ) → Chain g (listedType (g .types) X i) f u → MarkedIn X u × (getD X u 0 ≤ level (g .types) X i + 1)
     pub way : (u : ℕ) → u < g .types → MarkedIn X u → Way g u (getD X u 0) t
     pub size : length X ≡ length W
-    pub rest : drop (2 * g .types) X ≡ drop (2 * g .types) W
+    pub rest : drop (orderAt (g .types)) X ≡ drop (orderAt (g .types)) W
 
   module _ {t n : ℕ} {W X : List ℕ} (z : (u : ℕ) → u < g .types → getD W u 0 ≡ 0) (v : Visited g t (g .stop t) 1 W 0 X n) where
     first-only : (u : ℕ) → u < g .types → MarkedIn X u → (h : ℕ) × Chain g t h u × (getD X u 0 ≡ 1)
@@ -59,7 +58,7 @@ module _ (g : Graph) where
         }
 
   module _ {t head n m : ℕ} {W X Y : List ℕ} (l : head < n) (s : Searching t W head X n)
-      (v : Visited g (entry (g .types) X head) (g .stop (entry (g .types) X head)) (level (g .types) X head + 1) X n Y m) where
+      (v : Visited g (listedType (g .types) X head) (g .stop (listedType (g .types) X head)) (level (g .types) X head + 1) X n Y m) where
     old : (i : ℕ) → i < n → level (g .types) Y i ≡ level (g .types) X i
     old = level-kept (s .listed) (v .grown)
 
@@ -69,7 +68,7 @@ module _ (g : Graph) where
         ⊎-elim
         (λ (a : j < n). let x = old j a in let y = s .ahead l j a in omega arith)
         (λ a. let x = v .new j a b in omega arith)
-        (below-or-not j n)
+        (below-or-from j n)
 
     -- and at least that level, from `head` on
     at-least : (j : ℕ) → head ≤ j → j < m → level (g .types) X head ≤ level (g .types) Y j
@@ -77,7 +76,7 @@ module _ (g : Graph) where
         ⊎-elim
         (λ (a : j < n). let x = old j a in let y = s .sorted head j h a in omega arith)
         (λ a. let x = v .new j a b in omega arith)
-        (below-or-not j n)
+        (below-or-from j n)
 
     -- the list stays sorted
     more-sorted : (i j : ℕ) → i ≤ j → j < m → level (g .types) Y i ≤ level (g .types) Y j
@@ -85,14 +84,14 @@ module _ (g : Graph) where
         ⊎-elim
         (λ (c : j < n). let x = old i (omega arith) in let y = old j c in let z = s .sorted i j a c in omega arith)
         (λ c. let x = bound i (omega arith) in let y = v .new j c b in omega arith)
-        (below-or-not j n)
+        (below-or-from j n)
 
     -- what is known of a type that was marked
     kept-mark : (u k : ℕ) → u < g .types → MarkedIn X u × (getD X u 0 ≤ k) → MarkedIn Y u × (getD Y u 0 ≤ k)
     kept-mark u k b (x, y) = let e = v .grown .kept u b x in (grown-marks (v .grown) u b x, omega arith)
 
     -- a type that the fields at `head` lead to
-    new-mark : (f u : ℕ) → Chain g (entry (g .types) X head) f u → MarkedIn Y u × (getD Y u 0 ≤ level (g .types) X head + 1)
+    new-mark : (f u : ℕ) → Chain g (listedType (g .types) X head) f u → MarkedIn Y u × (getD Y u 0 ≤ level (g .types) X head + 1)
     new-mark f u c =
         let y = v .led f u (c .high) c in
         ⊎-elim
@@ -115,11 +114,11 @@ module _ (g : Graph) where
               ⊎-elim
               (λ (a : j < n). let x = old j a in let y = s .small j a in omega arith)
               (λ a. let x = v .new j a b in let y = s .small head l in omega arith)
-              (below-or-not j n);
+              (below-or-from j n);
           start = λ f u c. kept-mark u 1 (c .type) (s .start f u c);
           done = λ i b f u c.
-              let same : entry (g .types) Y i ≡ entry (g .types) X i = v .grown .same i (omega arith) in
-              let d : Chain g (entry (g .types) X i) f u = subst (λ (x : ℕ). Chain g x f u) same c in
+              let same : listedType (g .types) Y i ≡ listedType (g .types) X i = v .grown .same i (omega arith) in
+              let d : Chain g (listedType (g .types) X i) f u = subst (λ (x : ℕ). Chain g x f u) same c in
               let k : MarkedIn Y u × (getD Y u 0 ≤ level (g .types) X i + 1) =
               ⊎-elim
               (λ (e : i ≡ head). rw e (new-mark f u (rw e at d)))
@@ -131,7 +130,7 @@ module _ (g : Graph) where
               (λ x. rw (v .grown .kept u b x) (s .way u b x))
               (λ (f, c, e).
               let q : getD Y u 0 ≡ suc (level (g .types) X head) = omega arith in
-              rw q (way-snoc g (s .way (entry (g .types) X head) (s .listed .types-only head l) (s .listed .marked head l)) c))
+              rw q (way-snoc g (s .way (listedType (g .types) X head) (s .listed .types-only head l) (s .listed .marked head l)) c))
               (v .only u b y);
           size = v .grown .size ∙ s .size;
           rest = v .grown .rest ∙ s .rest;

@@ -1,19 +1,20 @@
 -- The order of the types stands in the work words behind those of the search, which leaves it as it is.
 use mathlib.Core.Path.{_≡_}
 use mathlib.Core.List.{List}
-use Prim.Native.Nat.{ℕ, _*_, _-_}
-use lib.ListN.{length, take, drop}
+use Prim.Native.Nat.{ℕ}
+use lib.ListN.{length, drop}
 use Rattle.table.specs.declared.layout.Layout.{Layout}
 use Rattle.table.specs.Layout.{typeCount}
-use Rattle.order.specs.Order.{Helps}
+use Rattle.chains.specs.Work.{orderAt}
 use Rattle.chains.specs.Answer.{Helped}
-use Rattle.chains.proofs.HelpLaws.{rest-all, helped-same}
+use Rattle.chains.proofs.HelpLaws.{helped-same}
+use Rattle.evidence.proofs.ChainLaws.{Chained, chained}
 
--- words that are as they were help as they did
-pub helped-kept : {w : List ℕ} {l : Layout} {W : List ℕ} → l .types ≡ typeCount w → Helped w l W → (X : List ℕ) → length X ≡ length W
-    → drop (2 * typeCount w) X ≡ drop (2 * typeCount w) W → Helped w l X
-helped-kept types h X size rest = helped-same h X size (rw (← types) at rest)
+module _ {w : List ℕ} {l : Layout} {W : List ℕ} (h : Helped w l W) where
+  -- what is known of the chain fields
+  pub facts : Chained w l
+  facts = chained (h .indexed .rows)
 
--- and so does the part of them that is lent to a lookup
-pub helped-part : {w : List ℕ} {l : Layout} {W : List ℕ} → Helped w l W → Helps w (l .types) (take (length W - 2 * l .types) (drop (2 * l .types) W))
-helped-part {l} {W} h = rw (rest-all (2 * l .types) W) (h .help)
+  -- words that are as they were help as they did
+  pub helped-kept : (X : List ℕ) → length X ≡ length W → drop (orderAt (typeCount w)) X ≡ drop (orderAt (typeCount w)) W → Helped w l X
+  helped-kept X size rest = helped-same h X size (rw (← facts .types) at rest)

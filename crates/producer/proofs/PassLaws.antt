@@ -7,39 +7,43 @@ use Prim.Native.Nat.{ℕ, suc, _+_, _*_, _-_, _≤_, _<_}
 use native.Mathlib.Omega.{arith}
 use lib.Dec.{eqb}
 use borrow.Author.Tests.{eqb-true, eqb-false, eq-eqb, ne-eqb, not-true}
-use Rattle.names.proofs.BoolLaws.{and-left, and-right, and-true, true-false}
+use Rattle.names.proofs.BoolLaws.{and-left, and-right, and-true, true-false, below-or-from}
 use lib.ListN.{length, getD, set, length-set}
 use lib.Seq.{getD-set-same, getD-set-other, drop-set-lt}
 use Rattle.chains.specs.Chains.{Graph}
 use Rattle.table.specs.Layout.{none}
-use Rattle.evidence.specs.Words.{evidenceWords, number, leader}
+use Rattle.evidence.specs.declared.row.EvidenceColumn.{EvidenceColumn}
+use Rattle.evidence.specs.declared.row.EvidenceColumn.the-variants.{Number, Leader, OutDistance, InDepth}
+use Rattle.evidence.specs.Words.{evidenceWords, placeOf, number, leader}
 use Rattle.evidence.specs.Reaches.{Reaches, OnClosedChain}
 use Rattle.evidence.specs.Canonical.{Count, Least, Way, Way.here, Other, Mutual}
+use Rattle.chains.specs.Work.{orderAt}
 use Rattle.producer.specs.Search.{MarkedIn, Searched, Clear, Cleared}
-use Rattle.producer.specs.Produced.{Word, Word.unmarked, Word.marked, Column, Filled, NumberIs, LeaderIs, LeaderIs.on, LeaderIs.off, DistanceIs, DepthIs, Numbered, Led, Looked, back, FirstBack, FirstBack.not-back, FirstBack.first, LevelIs}
-use Rattle.evidence.proofs.TestLaws.{below-or-not, last-or-below}
+use Rattle.producer.specs.Produced.{IfMarked, IfMarked.unmarked, IfMarked.marked, OnlyColumn, Filled, NumberIs, LeaderIs, LeaderIs.on, LeaderIs.off, WordIs, Right, Looked, back, FirstBack, FirstBack.not-back, FirstBack.first, LevelIs}
+use Rattle.evidence.proofs.TestLaws.{last-or-below}
 use Rattle.evidence.proofs.Counts.{count-le, count-lt, count-back, count-unique}
 use Rattle.evidence.proofs.Decide.{count-of, other-decided, reaches-decided}
 use Rattle.evidence.proofs.Marks.{reach-join, reach-end}
 use Rattle.producer.proofs.Reach.{count-as}
 
 -- no row is filled yet
-pub filled-none : (c n : ℕ) (Is : ℕ → ℕ → Type 0) (W : List ℕ) → Filled c 0 n Is W W
-filled-none c n Is W =
+pub filled-none : (g : Graph) (k : EvidenceColumn) (W : List ℕ) → Filled g k 0 W W
+filled-none g k W =
     record { words = λ t l. absurd (omega arith); column = record { others = λ t d l e. refl; size = refl; rest = refl } }
 
 -- one row more; j is its word's place
-pub filled-more : (c i n j v : ℕ) (Is : ℕ → ℕ → Type 0) (W X : List ℕ) → j ≡ evidenceWords * i + c → c < evidenceWords → i < n → evidenceWords * n ≤ length W
-    → Filled c i n Is W X → Is i v → Filled c (suc i) n Is W (set X j v)
-filled-more c i n j v Is W X e k l room f p =
+pub filled-more : (g : Graph) (k : EvidenceColumn) (i j v : ℕ) (W X : List ℕ) → j ≡ evidenceWords * i + placeOf k → placeOf k < evidenceWords → i < g .types
+    → evidenceWords * g .types ≤ length W → Filled g k i W X → WordIs g k W i v → Filled g k (suc i) W (set X j v)
+filled-more g k i j v W X e low l room f p =
     let size = f .column .size in
+    let c : ℕ = placeOf k in
     record {
       words = λ t b.
           ⊎-elim
           (λ (q : t ≡ i).
           let at : evidenceWords * t + c ≡ j = omega arith in
-          let low : j < length X = omega arith in
-          rw at (rw (getD-set-same X j v 0 low) (rw q p)))
+          let within : j < length X = omega arith in
+          rw at (rw (getD-set-same X j v 0 within) (rw q p)))
           (λ b′.
           let other : evidenceWords * t + c ≢ j = omega arith in
           rw (getD-set-other X j (evidenceWords * t + c) v 0 other) (f .words t b′))
@@ -49,12 +53,12 @@ filled-more c i n j v Is W X e k l room f p =
             let other : evidenceWords * t + d ≢ j = λ q. apart t d a b q in
             getD-set-other X j (evidenceWords * t + d) v 0 other ∙ f .column .others t d a b;
         size = length-set X j v ∙ size;
-        rest = drop-set-lt (evidenceWords * n) X j v (omega arith) ∙ f .column .rest;
+        rest = drop-set-lt (evidenceWords * g .types) X j v (omega arith) ∙ f .column .rest;
       };
     }
   where
-    apart : (t d : ℕ) → d < evidenceWords → d ≢ c → evidenceWords * t + d ≡ j → ⊥
-    apart t d a b q = ⊎-elim (λ (x : t < i). omega arith) (λ x. ⊎-elim (λ (y : i < t). omega arith) (λ y. b (omega arith)) (below-or-not i t)) (below-or-not t i)
+    apart : (t d : ℕ) → d < evidenceWords → d ≢ placeOf k → evidenceWords * t + d ≡ j → ⊥
+    apart t d a b q = ⊎-elim (λ (x : t < i). omega arith) (λ x. ⊎-elim (λ (y : i < t). omega arith) (λ y. b (omega arith)) (below-or-from i t)) (below-or-from t i)
 
 -- clearing, and clearing again
 pub cleared-refl : {n : ℕ} {W : List ℕ} → Clear n W → Cleared n W W
@@ -109,11 +113,11 @@ module _ (g : Graph) where
       ⊎-elim (λ q. (r, q)) (λ apart. let h = number-lower b x y r apart in absurd (omega arith)) d
 
   -- after a search the work space is cleared
-  pub cleared-after : {t n : ℕ} {W X Y : List ℕ} → Searched g t W X n → Cleared (2 * g .types) X Y → Cleared (2 * g .types) W Y
+  pub cleared-after : {t n : ℕ} {W X Y : List ℕ} → Searched g t W X n → Cleared (orderAt (g .types)) X Y → Cleared (orderAt (g .types)) W Y
   cleared-after s c = record { clear = c .clear; size = c .size ∙ s .size; rest = c .rest ∙ s .rest }
 
   -- after a search the types that t reaches are marked
-  pub looked : {t n : ℕ} {W X ev : List ℕ} → Searched g t W X n → Numbered g ev → Looked g t X ev
+  pub looked : {t n : ℕ} {W X ev : List ℕ} → Searched g t W X n → Right g Number ev → Looked g t X ev
   looked s h = record { marks = s .marks; numbers = h }
 
   -- among the types that t reaches, those with its number are those that reach it back
@@ -135,7 +139,7 @@ module _ (g : Graph) where
         on (back-mutual t low a .0)
         (record {
           holds = back-mutual u (omega arith) b;
-          least = λ s m. ⊎-elim (λ (q : s < u). absurd (true-false (mutual-back s (omega arith) m) (below s q))) (λ (q : u ≤ s). q) (below-or-not s u);
+          least = λ s m. ⊎-elim (λ (q : s < u). absurd (true-false (mutual-back s (omega arith) m) (below s q))) (λ (q : u ≤ s). q) (below-or-from s u);
         })
 
   -- a leader that is not NONE
@@ -149,33 +153,33 @@ module _ (g : Graph) where
   led-off small (off x) e = x
 
   module _ (ev : List ℕ) (t : ℕ) where
-    pub distance-itself : leader ev t ≢ none → leader ev t ≡ t → DistanceIs g ev t 0
+    pub distance-itself : leader ev t ≢ none → leader ev t ≡ t → WordIs g OutDistance ev t 0
     distance-itself n e = marked n (record { holds = subst (λ (u : ℕ). Way g u 0 t) (sym e) here; least = λ m w. omega arith })
 
-    pub depth-itself : leader ev t ≢ none → leader ev t ≡ t → DepthIs g ev t 0
+    pub depth-itself : leader ev t ≢ none → leader ev t ≡ t → WordIs g InDepth ev t 0
     depth-itself n e = marked n (record { holds = subst (λ (u : ℕ). Way g t 0 u) (sym e) here; least = λ m w. omega arith })
 
     -- distance and depth are levels of a search
-    pub distance-level : {l v : ℕ} → LeaderIs g t (leader ev t) → l ≡ leader ev t → l ≢ none → l ≢ t → LevelIs g t l v → DistanceIs g ev t v
+    pub distance-level : {l v : ℕ} → LeaderIs g t (leader ev t) → l ≡ leader ev t → leader ev t ≢ none → leader ev t ≢ t → LevelIs g t l v → WordIs g OutDistance ev t v
     distance-level {l} {v} h e n d k =
-        let (c, m) = led-on h (λ q. n (e ∙ q)) in
-        marked (λ q. n (e ∙ q)) (rw e at (k (subst (Reaches g t) (sym e) (m .holds .0)) d))
+        let (c, m) = led-on h n in
+        marked n (rw e at (k (subst (Reaches g t) (sym e) (m .holds .0)) (λ q. d (sym e ∙ q))))
 
-    pub depth-level : {l v : ℕ} → LeaderIs g t (leader ev t) → l ≡ leader ev t → l ≢ none → l ≢ t → LevelIs g l t v → DepthIs g ev t v
+    pub depth-level : {l v : ℕ} → LeaderIs g t (leader ev t) → l ≡ leader ev t → leader ev t ≢ none → leader ev t ≢ t → LevelIs g l t v → WordIs g InDepth ev t v
     depth-level {l} {v} h e n d k =
-        let (c, m) = led-on h (λ q. n (e ∙ q)) in
-        marked (λ q. n (e ∙ q)) (rw e at (k (subst (λ (x : ℕ). Reaches g x t) (sym e) (m .holds .1)) (λ q. d (sym q))))
+        let (c, m) = led-on h n in
+        marked n (rw e at (k (subst (λ (x : ℕ). Reaches g x t) (sym e) (m .holds .1)) (λ q. d (sym e ∙ sym q))))
 
     -- a leader is a type
-    pub leader-type : {l : ℕ} → LeaderIs g t (leader ev t) → l ≡ leader ev t → l ≢ none → l < g .types
-    leader-type {l} h e n = let (c, m) = led-on h (λ q. n (e ∙ q)) in rw e (reach-end g (m .holds .0))
+    pub leader-type : {l : ℕ} → LeaderIs g t (leader ev t) → l ≡ leader ev t → leader ev t ≢ none → l < g .types
+    leader-type {l} h e n = let (c, m) = led-on h n in rw e (reach-end g (m .holds .0))
 
 -- what a pass over another column leaves as it was
-pub word-as : {ev ev′ : List ℕ} {t v : ℕ} {P Q : ℕ → Type 0} → leader ev t ≡ leader ev′ t → (P v → Q v) → Word ev t P v → Word ev′ t Q v
+pub word-as : {ev ev′ : List ℕ} {t v : ℕ} {P Q : ℕ → Type 0} → leader ev t ≡ leader ev′ t → (P v → Q v) → IfMarked ev t P v → IfMarked ev′ t Q v
 word-as e f (unmarked n) = unmarked (sym e ∙ n)
 word-as e f (marked n p) = marked (λ q. n (e ∙ q)) (f p)
 
-module _ (g : Graph) {c n : ℕ} {W X : List ℕ} (k : Column c n W X) where
+module _ (g : Graph) {c n : ℕ} {W X : List ℕ} (k : OnlyColumn c n W X) where
   -- numbers and leaders
   pub number-kept : 0 ≢ c → (t : ℕ) → number X t ≡ number W t
   number-kept d t = k .others t 0 (omega arith) d
@@ -184,15 +188,15 @@ module _ (g : Graph) {c n : ℕ} {W X : List ℕ} (k : Column c n W X) where
   leader-kept d t = k .others t 1 (omega arith) d
 
   -- so what is right stays right
-  pub numbered-kept : 0 ≢ c → Numbered g W → Numbered g X
+  pub numbered-kept : 0 ≢ c → Right g Number W → Right g Number X
   numbered-kept d h t l = rw (number-kept d t) (h t l)
 
-  pub led-kept : 1 ≢ c → Led g W → Led g X
+  pub led-kept : 1 ≢ c → Right g Leader W → Right g Leader X
   led-kept d h t l = rw (leader-kept d t) (h t l)
 
   -- and what is asked stays the same
-  pub distance-kept : 1 ≢ c → (t v : ℕ) → DistanceIs g X t v → DistanceIs g W t v
+  pub distance-kept : 1 ≢ c → (t v : ℕ) → WordIs g OutDistance X t v → WordIs g OutDistance W t v
   distance-kept d t v w = word-as (leader-kept d t) (λ p. rw (leader-kept d t) at p) w
 
-  pub depth-kept : 1 ≢ c → (t v : ℕ) → DepthIs g X t v → DepthIs g W t v
+  pub depth-kept : 1 ≢ c → (t v : ℕ) → WordIs g InDepth X t v → WordIs g InDepth W t v
   depth-kept d t v w = word-as (leader-kept d t) (λ p. rw (leader-kept d t) at p) w

@@ -10,9 +10,12 @@ use lib.ListN.{length, getD, set, drop, replicate, length-set, length-append, le
 use lib.Seq.{getD-set-same, getD-set-other, drop-set-lt, drop-at}
 use Rattle.chains.specs.Chains.{Graph}
 use Rattle.evidence.specs.Canonical.{Count, Count.empty, Count.with, Count.without, Way.more}
-use Rattle.producer.specs.Search.{MarkedIn, Listed, Grown, Entered, Visited, Cleared}
-use Rattle.evidence.proofs.TestLaws.{same-or-not, below-or-not, last-or-below}
+use Rattle.chains.specs.Work.{orderAt}
+use Rattle.producer.specs.Search.{MarkedIn, MarksListed, Grown, Entered, Visited, Cleared}
+use Rattle.evidence.proofs.TestLaws.{last-or-below}
 use Rattle.evidence.proofs.Counts.{count-below}
+use Rattle.names.proofs.BoolLaws.{below-or-from}
+use Rattle.chains.proofs.Marks.{same-or-not}
 
 -- counts of properties that agree
 pub count-as : {P Q : ℕ → Type 0} {k n : ℕ} → ((i : ℕ) → i < k → P i → Q i) → ((i : ℕ) → i < k → Q i → P i) → Count P k n → Count Q k n
@@ -41,7 +44,7 @@ count-none zero h = empty
 count-none (suc k) h = without (h k (omega arith)) (count-none k (λ i l. h i (omega arith)))
 
 -- the search begins with an empty list
-pub listed-none : (types : ℕ) (W : List ℕ) → 2 * types ≤ length W → ((u : ℕ) → u < types → getD W u 0 ≡ 0) → Listed types W 0
+pub listed-none : (types : ℕ) (W : List ℕ) → orderAt types ≤ length W → ((u : ℕ) → u < types → getD W u 0 ≡ 0) → MarksListed types W 0
 listed-none types W room z =
     record {
       room = room;
@@ -52,7 +55,7 @@ listed-none types W room z =
     }
 
 -- nothing grows
-pub grown-refl : {types n : ℕ} {W : List ℕ} → Listed types W n → Grown types W n W n
+pub grown-refl : {types n : ℕ} {W : List ℕ} → MarksListed types W n → Grown types W n W n
 grown-refl h = record { listed = h; more = omega arith; same = λ i l. refl; kept = λ u l m. refl; size = refl; rest = refl }
 
 -- a mark stays
@@ -77,7 +80,7 @@ grown-join a b =
 unfoldable pub put : (types n u k : ℕ) → List ℕ → List ℕ
 put types n u k W = set (set W u k) (types + n) u
 
-module _ (types n u k : ℕ) (W : List ℕ) (h : Listed types W n) (low : u < types) (fresh : getD W u 0 ≡ 0) (some : 0 < k) where
+module _ (types n u k : ℕ) (W : List ℕ) (h : MarksListed types W n) (low : u < types) (fresh : getD W u 0 ≡ 0) (some : 0 < k) where
   -- there is room in the list
   pub room-left : n < types
   room-left = count-below (h .count) u low (λ m. m fresh)
@@ -104,11 +107,11 @@ module _ (types n u k : ℕ) (W : List ℕ) (h : Listed types W n) (low : u < ty
   unfolding put
   size-same = length-set (set W u k) (types + n) u ∙ length-set W u k
 
-  rest-same : drop (2 * types) (put types n u k W) ≡ drop (2 * types) W
+  rest-same : drop (orderAt types) (put types n u k W) ≡ drop (orderAt types) W
   unfolding put
   rest-same =
       let b = room-left in
-      drop-set-lt (2 * types) (set W u k) (types + n) u (omega arith) ∙ drop-set-lt (2 * types) W u k (omega arith)
+      drop-set-lt (orderAt types) (set W u k) (types + n) u (omega arith) ∙ drop-set-lt (orderAt types) W u k (omega arith)
 
   -- the marks after a type is put
   new-marked : MarkedIn (put types n u k W) u
@@ -121,7 +124,7 @@ module _ (types n u k : ℕ) (W : List ℕ) (h : Listed types W n) (low : u < ty
   marked-old v l d m e = m (at-mark v l d ∙ e)
 
   -- the list after a type is put
-  new-listed : Listed types (put types n u k W) (suc n)
+  new-listed : MarksListed types (put types n u k W) (suc n)
   new-listed =
       record {
         room = rw size-same (h .room);
@@ -145,11 +148,11 @@ module _ (types n u k : ℕ) (W : List ℕ) (h : Listed types W n) (low : u < ty
 
 module _ (g : Graph) where
   -- field f leads to no type, or to a marked one
-  pub entered-none : {f k n : ℕ} {W : List ℕ} → Listed (g .types) W n → (g .next f < g .types → MarkedIn W (g .next f)) → Entered g f k W n W n
+  pub entered-none : {f k n : ℕ} {W : List ℕ} → MarksListed (g .types) W n → (g .next f < g .types → MarkedIn W (g .next f)) → Entered g f k W n W n
   entered-none h m = record { grown = grown-refl h; led = m; only = λ u l b. inl b; new = λ i a b. absurd (omega arith) }
 
   -- or to one that is marked now, at level k
-  entered-new : (f k n : ℕ) (W : List ℕ) (h : Listed (g .types) W n) (low : g .next f < g .types) (fresh : getD W (g .next f) 0 ≡ 0) (some : 0 < k)
+  entered-new : (f k n : ℕ) (W : List ℕ) (h : MarksListed (g .types) W n) (low : g .next f < g .types) (fresh : getD W (g .next f) 0 ≡ 0) (some : 0 < k)
       → Entered g f k W n (set (set W (g .next f) k) (g .types + n) (g .next f)) (suc n)
   unfolding put
   entered-new f k n W h low fresh some =
@@ -167,12 +170,12 @@ module _ (g : Graph) where
       }
 
   -- as the code writes it
-  pub entered-at : (f k u n : ℕ) (W : List ℕ) → u ≡ g .next f → Listed (g .types) W n → u < g .types → getD W u 0 ≡ 0 → 0 < k
+  pub entered-at : (f k u n : ℕ) (W : List ℕ) → u ≡ g .next f → MarksListed (g .types) W n → u < g .types → getD W u 0 ≡ 0 → 0 < k
       → Entered g f k W n (set (set W u k) (g .types + n) u) (n + 1)
   entered-at f k u n W e h low fresh some = rw (add-one, e) (entered-new f k n W h (rw e at low) (rw e at fresh) some)
 
   -- no field was walked
-  pub visited-none : (s : ℕ) {k n : ℕ} {W : List ℕ} → Listed (g .types) W n → Visited g s (g .start s) k W n W n
+  pub visited-none : (s : ℕ) {k n : ℕ} {W : List ℕ} → MarksListed (g .types) W n → Visited g s (g .start s) k W n W n
   visited-none s h =
       record {
         grown = grown-refl h;
@@ -203,7 +206,7 @@ module _ (g : Graph) where
             rw (e .grown .same i l)
             (e .grown .kept (getD X (g .types + i) 0) (v .grown .listed .types-only i l) (v .grown .listed .marked i l) ∙ v .new i x l))
             (λ l. e .new i l y)
-            (below-or-not i m);
+            (below-or-from i m);
       }
 
   -- where all the fields were walked

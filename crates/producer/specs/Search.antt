@@ -1,70 +1,78 @@
 -- The search for the types that chain fields reach from a type, step by step: what the functions that search promise each other.
 --
--- W is the work words: type u is marked where word u is not 0, which is then its level, the number of fields on the way to it. The
--- marked types are listed from word `types` on, n of them. Behind two words for each type stands the order of the types, to look them up.
+-- W is the work words, whose parts are those of crates/chains: where other searches have the mark of a type this one has its level, the
+-- number of fields on the way to it, or 0; where they have counts it lists the marked types; and the order of the types is where it is.
 use mathlib.Core.Path.{_≡_}
 use mathlib.Core.Logic.{_⊎_, _≢_, _↔_}
 use mathlib.Core.List.{List}
-use Prim.Native.Nat.{ℕ, _+_, _*_, _≤_, _<_}
+use Prim.Native.Nat.{ℕ, _+_, _≤_, _<_}
 use lib.ListN.{length, getD, drop}
 use Rattle.table.specs.declared.layout.Layout.{Layout}
 use Rattle.table.specs.Layout.{typeCount}
+use Rattle.chains.specs.Work.{countsAt, orderAt, markOf}
 use Rattle.chains.specs.Answer.{Helped}
 use Rattle.chains.specs.Chains.{Graph, Chain}
 use Rattle.evidence.specs.Reaches.{Reaches}
 use Rattle.evidence.specs.Canonical.{Count, Least, Way}
-use Rattle.evidence.specs.Chained.{Chained}
+
+-- the level of type u, or 0
+abbrev pub levelOf : List ℕ → ℕ → ℕ
+levelOf W u = markOf W u
 
 -- type u is marked
 abbrev pub MarkedIn : List ℕ → ℕ → Type 0
-MarkedIn W u = getD W u 0 ≢ 0
+MarkedIn W u = levelOf W u ≢ 0
+
+-- type i of the list of marked types
+abbrev pub listedType : (types : ℕ) → List ℕ → ℕ → ℕ
+listedType types W i = getD W (countsAt types + i) 0
 
 -- n types are marked, and those are listed
-pub record Listed (types : ℕ) (W : List ℕ) (n : ℕ) : Type 0 where
-  pub room : 2 * types ≤ length W
+pub record MarksListed (types : ℕ) (W : List ℕ) (n : ℕ) : Type 0 where
+  pub room : orderAt types ≤ length W
   pub count : Count (MarkedIn W) types n
-  pub listed : (u : ℕ) → u < types → MarkedIn W u → (i : ℕ) × (i < n) × (getD W (types + i) 0 ≡ u)
-  pub types-only : (i : ℕ) → i < n → getD W (types + i) 0 < types
-  pub marked : (i : ℕ) → i < n → MarkedIn W (getD W (types + i) 0)
+  pub listed : (u : ℕ) → u < types → MarkedIn W u → (i : ℕ) × (i < n) × (listedType types W i ≡ u)
+  pub types-only : (i : ℕ) → i < n → listedType types W i < types
+  pub marked : (i : ℕ) → i < n → MarkedIn W (listedType types W i)
 
 -- a type may be looked up, and marked at level k, behind the n that are listed
 pub record Entering (w : List ℕ) (l : Layout) (k : ℕ) (W : List ℕ) (n : ℕ) : Type 0 where
-  pub listed : Listed (typeCount w) W n
+  pub listed : MarksListed (typeCount w) W n
   pub some : 0 < k
   pub help : Helped w l W
 
 -- more types may be marked and listed behind those that were, and all else is as it was
 pub record Grown (types : ℕ) (W : List ℕ) (n : ℕ) (X : List ℕ) (m : ℕ) : Type 0 where
-  pub listed : Listed types X m
+  pub listed : MarksListed types X m
   pub more : n ≤ m
-  pub same : (i : ℕ) → i < n → getD X (types + i) 0 ≡ getD W (types + i) 0
-  pub kept : (u : ℕ) → u < types → MarkedIn W u → getD X u 0 ≡ getD W u 0
+  pub same : (i : ℕ) → i < n → listedType types X i ≡ listedType types W i
+  pub kept : (u : ℕ) → u < types → MarkedIn W u → levelOf X u ≡ levelOf W u
   pub size : length X ≡ length W
-  pub rest : drop (2 * types) X ≡ drop (2 * types) W
+  pub rest : drop (orderAt types) X ≡ drop (orderAt types) W
 
 module _ (g : Graph) where
   -- where field f leads to a type, that one is marked, at level k if it was not, and no other that was not
   pub record Entered (f k : ℕ) (W : List ℕ) (n : ℕ) (X : List ℕ) (m : ℕ) : Type 0 where
     pub grown : Grown (g .types) W n X m
     pub led : g .next f < g .types → MarkedIn X (g .next f)
-    pub only : (u : ℕ) → u < g .types → MarkedIn X u → MarkedIn W u ⊎ ((g .next f ≡ u) × (getD X u 0 ≡ k))
-    pub new : (i : ℕ) → n ≤ i → i < m → getD X (getD X (g .types + i) 0) 0 ≡ k
+    pub only : (u : ℕ) → u < g .types → MarkedIn X u → MarkedIn W u ⊎ ((g .next f ≡ u) × (levelOf X u ≡ k))
+    pub new : (i : ℕ) → n ≤ i → i < m → levelOf X (listedType (g .types) X i) ≡ k
 
   -- the types that the chain fields of s below f lead to are marked, at level k if they were not, and no others that were not
   pub record Visited (s f k : ℕ) (W : List ℕ) (n : ℕ) (X : List ℕ) (m : ℕ) : Type 0 where
     pub grown : Grown (g .types) W n X m
     pub led : (h u : ℕ) → h < f → Chain g s h u → MarkedIn X u
-    pub only : (u : ℕ) → u < g .types → MarkedIn X u → MarkedIn W u ⊎ ((h : ℕ) × Chain g s h u × (getD X u 0 ≡ k))
-    pub new : (i : ℕ) → n ≤ i → i < m → getD X (getD X (g .types + i) 0) 0 ≡ k
+    pub only : (u : ℕ) → u < g .types → MarkedIn X u → MarkedIn W u ⊎ ((h : ℕ) × Chain g s h u × (levelOf X u ≡ k))
+    pub new : (i : ℕ) → n ≤ i → i < m → levelOf X (listedType (g .types) X i) ≡ k
 
   -- the types that chain fields reach from t are marked, n of them, and no others; the level of another type is its shortest distance
-  -- from t; the words behind two for each type are as they were
+  -- from t; the order of the types is as it was, and what stands behind it
   pub record Searched (t : ℕ) (W X : List ℕ) (n : ℕ) : Type 0 where
     pub marks : (u : ℕ) → u < g .types → MarkedIn X u ↔ Reaches g t u
     pub count : Count (Reaches g t) (g .types) n
-    pub level : (u : ℕ) → u < g .types → MarkedIn X u → u ≢ t → Least (λ k. Way g u k t) (getD X u 0)
+    pub level : (u : ℕ) → u < g .types → MarkedIn X u → u ≢ t → Least (λ k. Way g u k t) (levelOf X u)
     pub size : length X ≡ length W
-    pub rest : drop (2 * g .types) X ≡ drop (2 * g .types) W
+    pub rest : drop (orderAt (g .types)) X ≡ drop (orderAt (g .types)) W
 
 -- the first n words are 0
 pub record Clear (n : ℕ) (W : List ℕ) : Type 0 where
@@ -72,10 +80,9 @@ pub record Clear (n : ℕ) (W : List ℕ) : Type 0 where
   pub zero : (i : ℕ) → i < n → getD W i 0 ≡ 0
 
 -- a search from t may begin
-pub record Ready (w : List ℕ) (l : Layout) (t : ℕ) (W : List ℕ) : Type 0 where
-  pub chained : Chained w l
+pub record MaySearch (w : List ℕ) (l : Layout) (t : ℕ) (W : List ℕ) : Type 0 where
   pub low : t < l .types
-  pub clear : Clear (2 * typeCount w) W
+  pub clear : Clear (orderAt (typeCount w)) W
   pub help : Helped w l W
 
 -- the first n words were set to 0, and the rest is as it was

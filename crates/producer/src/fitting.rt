@@ -1,83 +1,94 @@
 // The lowest fields that fit: with which rules 5 and 6 hold.
 ghost use Prim.Native.Nat.{_<_};
-ghost use Rattle.order.specs.Order.{Helps};
+ghost use Rattle.order.specs.Order.{Indexed};
 ghost use Rattle.chains.specs.Fields.{chainGraph};
-ghost use Rattle.evidence.specs.Chained.{Chained};
-ghost use Rattle.producer.specs.Produced.{Measured, OutIs, InIs, InFrom};
+ghost use Rattle.evidence.specs.declared.row.EvidenceColumn.the-variants.{OutField, InField};
+ghost use Rattle.producer.specs.Produced.{WordIs, AllRight, measures, InFrom};
 use chains::fields::chains_end;
 use evidence::chain::comes_in;
 use evidence::chain::goes_out;
 use evidence::chain::nearer;
+use evidence::row::EvidenceWord;
 use evidence::row::leads;
 use evidence::row::marked;
-use rows::numbers::TypeRow;
 use rows::parts::fields_start;
 use table::layout::Layout;
+use table::numbers::TypeRow;
 
 // The lowest field with which rule 5 holds.
-pub fn out_field_of(words: &[u32], l: Layout, order: &[u32], t: TypeRow, out: &[u32]) -> u32
-    requires { ⌜ Chained (now words) l ⌝ }
+pub fn out_field_of(
+    words: &[u32],
+    l: Layout,
+    order: &[u32],
+    t: TypeRow,
+    out: &[u32],
+) -> EvidenceWord
+    requires { ⌜ Indexed (now words) l (now order) ⌝ }
     requires { ⌜ t .0 < l .types ⌝ }
-    requires { ⌜ Measured (chainGraph (now words)) (now out) ⌝ }
-    requires { ⌜ Helps (now words) (l .types) (now order) ⌝ }
-    ensures { λ r. ⌜ OutIs (chainGraph (now (words .entry))) (now (out .entry)) (t .0) r ⌝ }
+    requires { ⌜ AllRight (chainGraph (now words)) measures (now out) ⌝ }
+    ensures { λ r. ⌜ WordIs (chainGraph (now (words .entry))) OutField (now (out .entry)) (t .0) (r .0) ⌝ }
 {
     if !marked(out, t) {
-        return TypeRow::NONE.0;
+        return EvidenceWord::NONE;
     }
     let end = chains_end(words, l, t);
     let mut f = fields_start(words, l, t);
     while f < end {
         if goes_out(words, l, order, out, t, f) {
-            return f as u32;
+            return EvidenceWord(f as u32);
         }
         f += 1;
     }
-    TypeRow::NONE.0
+    EvidenceWord::NONE
 }
 
 // The lowest field of type s with which rule 6 holds for t, or NONE.
-fn in_from(words: &[u32], l: Layout, order: &[u32], t: TypeRow, s: TypeRow, out: &[u32]) -> u32
-    requires { ⌜ Chained (now words) l ⌝ }
+fn in_from(
+    words: &[u32],
+    l: Layout,
+    order: &[u32],
+    t: TypeRow,
+    s: TypeRow,
+    out: &[u32],
+) -> EvidenceWord
+    requires { ⌜ Indexed (now words) l (now order) ⌝ }
     requires { ⌜ s .0 < l .types ⌝ }
-    requires { ⌜ Helps (now words) (l .types) (now order) ⌝ }
-    ensures { λ r. ⌜ InFrom (chainGraph (now (words .entry))) (now (out .entry)) (t .0) (s .0) r ⌝ }
+    ensures { λ r. ⌜ InFrom (chainGraph (now (words .entry))) (now (out .entry)) (t .0) (s .0) (r .0) ⌝ }
 {
     if !nearer(out, t, s) {
-        return TypeRow::NONE.0;
+        return EvidenceWord::NONE;
     }
     let end = chains_end(words, l, s);
     let mut f = fields_start(words, l, s);
     while f < end {
         if comes_in(words, l, order, out, t, f, s) {
-            return f as u32;
+            return EvidenceWord(f as u32);
         }
         f += 1;
     }
-    TypeRow::NONE.0
+    EvidenceWord::NONE
 }
 
 // The lowest field with which rule 6 holds.
-pub fn in_field_of(words: &[u32], l: Layout, order: &[u32], t: TypeRow, out: &[u32]) -> u32
-    requires { ⌜ Chained (now words) l ⌝ }
+pub fn in_field_of(words: &[u32], l: Layout, order: &[u32], t: TypeRow, out: &[u32]) -> EvidenceWord
+    requires { ⌜ Indexed (now words) l (now order) ⌝ }
     requires { ⌜ t .0 < l .types ⌝ }
-    requires { ⌜ Measured (chainGraph (now words)) (now out) ⌝ }
-    requires { ⌜ Helps (now words) (l .types) (now order) ⌝ }
-    ensures { λ r. ⌜ InIs (chainGraph (now (words .entry))) (now (out .entry)) (t .0) r ⌝ }
+    requires { ⌜ AllRight (chainGraph (now words)) measures (now out) ⌝ }
+    ensures { λ r. ⌜ WordIs (chainGraph (now (words .entry))) InField (now (out .entry)) (t .0) (r .0) ⌝ }
 {
     if !marked(out, t) {
-        return TypeRow::NONE.0;
+        return EvidenceWord::NONE;
     }
     if leads(out, t) {
-        return TypeRow::NONE.0;
+        return EvidenceWord::NONE;
     }
     let mut s = 0;
     while s < l.types {
         let f = in_from(words, l, order, t, TypeRow(s as u32), out);
-        if f != TypeRow::NONE.0 {
+        if !f.is_none() {
             return f;
         }
         s += 1;
     }
-    TypeRow::NONE.0
+    EvidenceWord::NONE
 }

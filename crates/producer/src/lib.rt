@@ -8,8 +8,8 @@
 // through the chain fields from one type, so all of them take as many steps as there are types times fields, and a few times that. A matrix
 // of what reaches what is not needed: among the types that t reaches, those with its number are those that reach it back.
 //
-// The search takes two work words a type. A third holds the types in the order of their names, so that the type that a field names is
-// found in a few steps. All of them are left 0.
+// The search takes the parts of the work table that other searches have for marks and counts. The third holds the types in the order of their
+// names, so that the type that a field names is found in a few steps. All of them are left 0.
 ghost use mathlib.Core.Path.{_≡_};
 ghost use mathlib.Core.List.{_++_};
 ghost use Prim.Native.Nat.{_*_};
@@ -22,7 +22,8 @@ ghost use Rattle.evidence.specs.Words.{evidenceWords};
 ghost use Rattle.producer.specs.Produced.{Rooms, Made};
 use crate::fill::fill_all;
 use chains::cycle::clear;
-use evidence::row::EvidenceWord;
+use chains::work::Work;
+use evidence::row::EvidenceColumn;
 use order::sort::sort_from;
 use table::layout::Layout;
 
@@ -39,8 +40,9 @@ pub fn make_evidence(words: &[u32], l: Layout, work: &mut [u32], out: &mut [u32]
     ensures { λ _. ⌜ Made (chainGraph (now (words .entry))) (now (out .entry)) (now (out .exit)) ⌝ }
     ensures { λ _. ⌜ now (work .exit) ≡ replicate (evidenceWords * typeCount (now (words .entry))) 0 ++ drop (evidenceWords * typeCount (now (words .entry))) (now (work .entry)) ⌝ }
 {
-    clear(work, 2 * l.types);
-    sort_from(words, l, work, 2 * l.types);
+    let order_at = Work { types: l.types }.order_at();
+    clear(work, order_at);
+    sort_from(words, l, work, order_at);
     fill_all(words, l, work, out);
-    clear(work, EvidenceWord::COUNT * l.types);
+    clear(work, EvidenceColumn::COUNT * l.types);
 }

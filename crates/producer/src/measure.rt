@@ -1,27 +1,32 @@
 // The words that searches find: number, leader, distance and depth of a type.
 ghost use mathlib.Core.Path.{_≡_};
-ghost use Prim.Native.Nat.{_*_, _<_};
+ghost use Prim.Native.Nat.{_<_};
 ghost use lib.ListN.{length};
 ghost use Rattle.table.specs.Layout.{typeCount};
 ghost use Rattle.chains.specs.Fields.{chainGraph};
-ghost use Rattle.producer.specs.Search.{Ready, Cleared};
-ghost use Rattle.producer.specs.Produced.{Numbered, Led, NumberIs, LeaderIs, DistanceIs, DepthIs, LevelIs, back, FirstBack};
-use crate::search::forget;
+ghost use Rattle.chains.specs.Work.{orderAt};
+ghost use Rattle.evidence.specs.declared.row.EvidenceColumn.the-variants.{Number, Leader, OutDistance, InDepth};
+ghost use Rattle.producer.specs.Search.{MaySearch, Cleared};
+ghost use Rattle.producer.specs.Produced.{NumberIs, LeaderIs, WordIs, Right, LevelIs, back, FirstBack};
+use crate::search::clear_search;
 use crate::search::search;
+use evidence::row::EvidenceWord;
 use evidence::row::leader;
+use evidence::row::leads;
+use evidence::row::marked;
 use evidence::row::number;
-use rows::numbers::TypeRow;
 use table::layout::Layout;
+use table::numbers::TypeRow;
 
 // How many other types chain fields reach from t.
 pub fn number_of(words: &[u32], l: Layout, t: TypeRow, work: &mut [u32]) -> u32
-    requires { ⌜ Ready (now words) l (t .0) (now work) ⌝ }
+    requires { ⌜ MaySearch (now words) l (t .0) (now work) ⌝ }
     ensures { λ r. ⌜ NumberIs (chainGraph (now (words .entry))) (t .0) r ⌝ }
-    ensures { λ r. ⌜ Cleared (2 * typeCount (now (words .entry))) (now (work .entry)) (now (work .exit)) ⌝ }
+    ensures { λ r. ⌜ Cleared (orderAt (typeCount (now (words .entry)))) (now (work .entry)) (now (work .exit)) ⌝ }
 {
     let n = search(words, l, t, work);
     let back = work[t.0 as usize];
-    forget(l.types, work);
+    clear_search(l.types, work);
     if back == 0 {
         return n as u32;
     }
@@ -56,60 +61,64 @@ fn lowest_back(t: TypeRow, work: &[u32], out: &[u32]) -> TypeRow
 
 // The lowest row among those that t reaches and that reach t.
 pub fn leader_of(words: &[u32], l: Layout, t: TypeRow, work: &mut [u32], out: &[u32]) -> TypeRow
-    requires { ⌜ Ready (now words) l (t .0) (now work) ⌝ }
-    requires { ⌜ Numbered (chainGraph (now words)) (now out) ⌝ }
+    requires { ⌜ MaySearch (now words) l (t .0) (now work) ⌝ }
+    requires { ⌜ Right (chainGraph (now words)) Number (now out) ⌝ }
     ensures { λ r. ⌜ LeaderIs (chainGraph (now (words .entry))) (t .0) (r .0) ⌝ }
-    ensures { λ r. ⌜ Cleared (2 * typeCount (now (words .entry))) (now (work .entry)) (now (work .exit)) ⌝ }
+    ensures { λ r. ⌜ Cleared (orderAt (typeCount (now (words .entry)))) (now (work .entry)) (now (work .exit)) ⌝ }
 {
     search(words, l, t, work);
     let found = lowest_back(t, work, out);
-    forget(l.types, work);
+    clear_search(l.types, work);
     found
 }
 
 // The shortest distance from s to another type u that it reaches.
 fn level(words: &[u32], l: Layout, s: TypeRow, u: TypeRow, work: &mut [u32]) -> u32
-    requires { ⌜ Ready (now words) l (s .0) (now work) ⌝ }
+    requires { ⌜ MaySearch (now words) l (s .0) (now work) ⌝ }
     requires { ⌜ u .0 < l .types ⌝ }
     ensures { λ r. ⌜ LevelIs (chainGraph (now (words .entry))) (s .0) (u .0) r ⌝ }
-    ensures { λ r. ⌜ Cleared (2 * typeCount (now (words .entry))) (now (work .entry)) (now (work .exit)) ⌝ }
+    ensures { λ r. ⌜ Cleared (orderAt (typeCount (now (words .entry)))) (now (work .entry)) (now (work .exit)) ⌝ }
 {
     search(words, l, s, work);
     let found = work[u.0 as usize];
-    forget(l.types, work);
+    clear_search(l.types, work);
     found
 }
 
 // The shortest distance from t to its leader.
-pub fn distance_of(words: &[u32], l: Layout, t: TypeRow, work: &mut [u32], out: &[u32]) -> u32
-    requires { ⌜ Ready (now words) l (t .0) (now work) ⌝ }
-    requires { ⌜ Led (chainGraph (now words)) (now out) ⌝ }
-    ensures { λ r. ⌜ DistanceIs (chainGraph (now (words .entry))) (now (out .entry)) (t .0) r ⌝ }
-    ensures { λ r. ⌜ Cleared (2 * typeCount (now (words .entry))) (now (work .entry)) (now (work .exit)) ⌝ }
+pub fn distance_of(
+    words: &[u32],
+    l: Layout,
+    t: TypeRow,
+    work: &mut [u32],
+    out: &[u32],
+) -> EvidenceWord
+    requires { ⌜ MaySearch (now words) l (t .0) (now work) ⌝ }
+    requires { ⌜ Right (chainGraph (now words)) Leader (now out) ⌝ }
+    ensures { λ r. ⌜ WordIs (chainGraph (now (words .entry))) OutDistance (now (out .entry)) (t .0) (r .0) ⌝ }
+    ensures { λ r. ⌜ Cleared (orderAt (typeCount (now (words .entry)))) (now (work .entry)) (now (work .exit)) ⌝ }
 {
-    let to = leader(out, t);
-    if to.0 == TypeRow::NONE.0 {
-        return TypeRow::NONE.0;
+    if !marked(out, t) {
+        return EvidenceWord::NONE;
     }
-    if to.0 == t.0 {
-        return 0;
+    if leads(out, t) {
+        return EvidenceWord(0);
     }
-    level(words, l, t, to, work)
+    EvidenceWord(level(words, l, t, leader(out, t), work))
 }
 
 // The shortest distance to t from its leader.
-pub fn depth_of(words: &[u32], l: Layout, t: TypeRow, work: &mut [u32], out: &[u32]) -> u32
-    requires { ⌜ Ready (now words) l (t .0) (now work) ⌝ }
-    requires { ⌜ Led (chainGraph (now words)) (now out) ⌝ }
-    ensures { λ r. ⌜ DepthIs (chainGraph (now (words .entry))) (now (out .entry)) (t .0) r ⌝ }
-    ensures { λ r. ⌜ Cleared (2 * typeCount (now (words .entry))) (now (work .entry)) (now (work .exit)) ⌝ }
+pub fn depth_of(words: &[u32], l: Layout, t: TypeRow, work: &mut [u32], out: &[u32]) -> EvidenceWord
+    requires { ⌜ MaySearch (now words) l (t .0) (now work) ⌝ }
+    requires { ⌜ Right (chainGraph (now words)) Leader (now out) ⌝ }
+    ensures { λ r. ⌜ WordIs (chainGraph (now (words .entry))) InDepth (now (out .entry)) (t .0) (r .0) ⌝ }
+    ensures { λ r. ⌜ Cleared (orderAt (typeCount (now (words .entry)))) (now (work .entry)) (now (work .exit)) ⌝ }
 {
-    let from = leader(out, t);
-    if from.0 == TypeRow::NONE.0 {
-        return TypeRow::NONE.0;
+    if !marked(out, t) {
+        return EvidenceWord::NONE;
     }
-    if from.0 == t.0 {
-        return 0;
+    if leads(out, t) {
+        return EvidenceWord(0);
     }
-    level(words, l, from, t, work)
+    EvidenceWord(level(words, l, leader(out, t), t, work))
 }

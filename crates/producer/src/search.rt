@@ -1,43 +1,43 @@
 // The search for the types that chain fields reach from a type, each entered once, nearest first.
 //
-// The work words hold for each type its level, the number of fields on the way to it, or 0 where it is not marked; behind these the
-// list of the marked types; and behind that the order of the types, in which the type that a field names is looked up.
-ghost use Prim.Native.Nat.{_+_, _*_, _<_, _≤_};
+// The parts of the work table are those of the crate chains. Where that has the mark of a type stands its level, the number of fields on the
+// way to it, or 0 where it is not marked; where it has counts, the list of the marked types; and then the order of the types.
+ghost use Prim.Native.Nat.{_<_, _≤_};
 ghost use lib.ListN.{length};
 ghost use Rattle.table.specs.Layout.{mostTypes};
 ghost use Rattle.chains.specs.Fields.{chainsEnd, chainGraph};
-ghost use Rattle.evidence.specs.Chained.{Chained};
-ghost use Rattle.producer.specs.Search.{Entering, Entered, Visited, Ready, Searched, Cleared};
+ghost use Rattle.chains.specs.Work.{orderAt};
+ghost use Rattle.producer.specs.Search.{Entering, Entered, Visited, MaySearch, Searched, Cleared};
 use chains::cycle::clear;
 use chains::fields::chains_end;
 use chains::fields::target_by;
-use rows::numbers::TypeRow;
+use chains::work::Work;
 use rows::parts::fields_start;
+use rows::types::FoundType;
 use table::layout::Layout;
+use table::numbers::TypeRow;
 
 // Marks and lists the type that field f leads to, where that is one and is not marked yet. n types are listed before.
 fn enter(words: &[u32], l: Layout, f: usize, level: u32, n: usize, work: &mut [u32]) -> usize
-    requires { ⌜ Chained (now words) l ⌝ }
     requires { ⌜ f < l .fields ⌝ }
     requires { ⌜ Entering (now words) l level (now work) n ⌝ }
     ensures { λ m. ⌜ Entered (chainGraph (now (words .entry))) f level (now (work .entry)) n (now (work .exit)) m ⌝ }
 {
-    let types = l.types;
-    let u = target_by(words, l, work, f);
-    if types <= u {
+    let FoundType::At(u) = target_by(words, l, work, f) else {
+        return n;
+    };
+    let row = u.0 as usize;
+    if work[row] != 0 {
         return n;
     }
-    if work[u] != 0 {
-        return n;
-    }
-    work[u] = level;
-    work[types + n] = u as u32;
+    work[row] = level;
+    let end = Work { types: l.types }.counts_at() + n;
+    work[end] = u.0;
     n + 1
 }
 
 // The same for the chain fields of type s.
 fn visit(words: &[u32], l: Layout, s: TypeRow, level: u32, listed: usize, work: &mut [u32]) -> usize
-    requires { ⌜ Chained (now words) l ⌝ }
     requires { ⌜ s .0 < l .types ⌝ }
     requires { ⌜ Entering (now words) l level (now work) listed ⌝ }
     ensures { λ m. ⌜ Visited (chainGraph (now (words .entry))) (s .0) (chainsEnd (now (words .entry)) (s .0)) level (now (work .entry)) listed (now (work .exit)) m ⌝ }
@@ -55,16 +55,16 @@ fn visit(words: &[u32], l: Layout, s: TypeRow, level: u32, listed: usize, work: 
 
 // Marks and lists the types that chain fields reach from t, and returns how many those are.
 pub fn search(words: &[u32], l: Layout, t: TypeRow, work: &mut [u32]) -> usize
-    requires { ⌜ Ready (now words) l (t .0) (now work) ⌝ }
+    requires { ⌜ MaySearch (now words) l (t .0) (now work) ⌝ }
     ensures { λ n. ⌜ Searched (chainGraph (now (words .entry))) (t .0) (now (work .entry)) (now (work .exit)) n ⌝ }
     ensures { λ n. ⌜ n ≤ l .types ⌝ }
 {
-    let types = l.types;
+    let list = Work { types: l.types }.counts_at();
     let from = t.0; // what the loop does is said of this number
     let mut n = visit(words, l, TypeRow(from), 1, 0, work);
     let mut head = 0;
     while head < n {
-        let s = work[types + head];
+        let s = work[list + head];
         let level = work[s as usize];
         n = visit(words, l, TypeRow(s), level + 1, n, work);
         head += 1;
@@ -73,10 +73,10 @@ pub fn search(words: &[u32], l: Layout, t: TypeRow, work: &mut [u32]) -> usize
 }
 
 // Sets the work words of a search to 0 again.
-pub fn forget(types: usize, work: &mut [u32])
+pub fn clear_search(types: usize, work: &mut [u32])
     requires { ⌜ types ≤ mostTypes ⌝ }
-    requires { ⌜ 2 * types ≤ length (now work) ⌝ }
-    ensures { λ _. ⌜ Cleared (2 * types) (now (work .entry)) (now (work .exit)) ⌝ }
+    requires { ⌜ orderAt types ≤ length (now work) ⌝ }
+    ensures { λ _. ⌜ Cleared (orderAt types) (now (work .entry)) (now (work .exit)) ⌝ }
 {
-    clear(work, 2 * types);
+    clear(work, Work { types }.order_at());
 }

@@ -2,7 +2,7 @@
 use mathlib.Core.Path.{_≡_}
 use mathlib.Core.List.{List, _∷_, [], _++_}
 use mathlib.Core.Bool.{Bool, true, false}
-use Prim.Native.Nat.{ℕ, suc, zero, _+_, _*_, _≤_}
+use Prim.Native.Nat.{ℕ, suc, zero, _+_, _*_, _^_, _≤_}
 use lib.ListN.{length, drop}
 use Rattle.records.specs.declared.Record.{Record}
 
@@ -10,9 +10,13 @@ use Rattle.records.specs.declared.Record.{Record}
 abbrev pub rowWords : ℕ
 rowWords = 5
 
+-- far more records than any table has: the words of so many are counted without wrapping
+abbrev pub countable : ℕ
+countable = 2 ^ 59
+
 -- the words of a record
 abbrev pub wordsOf : Record → List ℕ
-wordsOf r = r .code ∷ r .ty ∷ r .a ∷ r .b ∷ r .c ∷ []
+wordsOf r = r .code .0 ∷ r .ty .0 ∷ r .a .0 ∷ r .b .0 ∷ r .c .0 ∷ []
 
 -- the words of a list of records, one row after the other
 unfoldable pub flat : List Record → List ℕ

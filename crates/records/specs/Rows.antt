@@ -3,68 +3,72 @@ use Prim.Native.Nat.{ℕ}
 use Rattle.records.specs.declared.Record.{Record}
 use Rattle.table.specs.Layout.{none}
 
+-- a record of a code and a type, and the three words that say the rest
+abbrev pub row : (code ty a b c : ℕ) → Record
+row code ty a b c = record { code = record { 0 = code }; ty = record { 0 = ty }; a = record { 0 = a }; b = record { 0 = b }; c = record { 0 = c } }
+
 abbrev pub queryRootOperationType : Record
-queryRootOperationType = record { code = 1; ty = none; a = none; b = none; c = none }
+queryRootOperationType = row 1 none none none none
 
 abbrev pub rootOperationObjectType : ℕ → ℕ → Record
-rootOperationObjectType operation name = record { code = 2; ty = none; a = operation; b = name; c = none }
+rootOperationObjectType operation name = row 2 none operation name none
 
 abbrev pub undefinedDefinition : ℕ → ℕ → ℕ → ℕ → Record
-undefinedDefinition ty name place row = record { code = 3; ty = ty; a = name; b = place; c = row }
+undefinedDefinition ty name place at = row 3 ty name place at
 
 abbrev pub duplicateRootOperationType : ℕ → ℕ → ℕ → Record
-duplicateRootOperationType operation name first = record { code = 4; ty = none; a = operation; b = name; c = first }
+duplicateRootOperationType operation name first = row 4 none operation name first
 
 abbrev pub reservedName : ℕ → ℕ → ℕ → ℕ → Record
-reservedName ty name place row = record { code = 5; ty = ty; a = name; b = place; c = row }
+reservedName ty name place at = row 5 ty name place at
 
 abbrev pub recursiveInterfaceDefinition : ℕ → ℕ → Record
-recursiveInterfaceDefinition ty edge = record { code = 6; ty = ty; a = edge; b = none; c = none }
+recursiveInterfaceDefinition ty edge = row 6 ty edge none none
 
 abbrev pub emptyFieldSet : ℕ → Record
-emptyFieldSet ty = record { code = 7; ty = ty; a = none; b = none; c = none }
+emptyFieldSet ty = row 7 ty none none none
 
 abbrev pub transitiveImplementedInterfaces : ℕ → ℕ → ℕ → Record
-transitiveImplementedInterfaces ty viaEdge interfaceEdge = record { code = 8; ty = ty; a = viaEdge; b = interfaceEdge; c = none }
+transitiveImplementedInterfaces ty viaEdge interfaceEdge = row 8 ty viaEdge interfaceEdge none
 
 abbrev pub missingInterfaceField : ℕ → ℕ → ℕ → Record
-missingInterfaceField ty edge interfaceField = record { code = 9; ty = ty; a = edge; b = interfaceField; c = none }
+missingInterfaceField ty edge interfaceField = row 9 ty edge interfaceField none
 
 abbrev pub invalidImplementationFieldType : ℕ → ℕ → ℕ → ℕ → Record
-invalidImplementationFieldType ty edge interfaceField ownField = record { code = 10; ty = ty; a = edge; b = interfaceField; c = ownField }
+invalidImplementationFieldType ty edge interfaceField ownField = row 10 ty edge interfaceField ownField
 
 abbrev pub missingInterfaceFieldArgument : ℕ → ℕ → ℕ → ℕ → Record
-missingInterfaceFieldArgument ty edge ownField interfaceArgument = record { code = 11; ty = ty; a = edge; b = ownField; c = interfaceArgument }
+missingInterfaceFieldArgument ty edge ownField interfaceArgument = row 11 ty edge ownField interfaceArgument
 
 abbrev pub invalidImplementationFieldArgumentType : ℕ → ℕ → ℕ → ℕ → Record
-invalidImplementationFieldArgumentType ty edge interfaceArgument ownArgument = record { code = 12; ty = ty; a = edge; b = interfaceArgument; c = ownArgument }
+invalidImplementationFieldArgumentType ty edge interfaceArgument ownArgument = row 12 ty edge interfaceArgument ownArgument
 
 abbrev pub extraRequiredImplementationFieldArgument : ℕ → ℕ → ℕ → ℕ → Record
-extraRequiredImplementationFieldArgument ty edge interfaceField ownArgument = record { code = 13; ty = ty; a = edge; b = interfaceField; c = ownArgument }
+extraRequiredImplementationFieldArgument ty edge interfaceField ownArgument = row 13 ty edge interfaceField ownArgument
 
 abbrev pub unionMemberObjectType : ℕ → ℕ → Record
-unionMemberObjectType ty member = record { code = 14; ty = ty; a = member; b = none; c = none }
+unionMemberObjectType ty member = row 14 ty member none none
 
 abbrev pub emptyMemberSet : ℕ → Record
-emptyMemberSet ty = record { code = 15; ty = ty; a = none; b = none; c = none }
+emptyMemberSet ty = row 15 ty none none none
 
 abbrev pub emptyValueSet : ℕ → Record
-emptyValueSet ty = record { code = 16; ty = ty; a = none; b = none; c = none }
+emptyValueSet ty = row 16 ty none none none
 
 abbrev pub recursiveInputObjectDefinition : ℕ → ℕ → Record
-recursiveInputObjectDefinition ty fields = record { code = 17; ty = ty; a = fields; b = none; c = none }
+recursiveInputObjectDefinition ty fields = row 17 ty fields none none
 
 abbrev pub inputType : ℕ → ℕ → ℕ → Record
-inputType ty place row = record { code = 18; ty = ty; a = place; b = row; c = none }
+inputType ty place at = row 18 ty place at none
 
 abbrev pub outputType : ℕ → ℕ → Record
-outputType ty field = record { code = 19; ty = ty; a = field; b = none; c = none }
+outputType ty field = row 19 ty field none none
 
 abbrev pub uniqueInputValue : ℕ → ℕ → ℕ → Record
-uniqueInputValue ty first again = record { code = 20; ty = ty; a = first; b = again; c = none }
+uniqueInputValue ty first again = row 20 ty first again none
 
 abbrev pub emptyInputValueSet : ℕ → Record
-emptyInputValueSet ty = record { code = 21; ty = ty; a = none; b = none; c = none }
+emptyInputValueSet ty = row 21 ty none none none
 
 -- what a row in a record is a row of
 abbrev pub atRoot : ℕ

@@ -2,7 +2,7 @@
 // of it, and no type of the ladder has one, though the number of ways down the ladder has more than two hundred digits.
 use chains::cycle::clear;
 use chains::cycle::first_cycle;
-use rows::numbers::TypeRow;
+use chains::work::Work;
 use shapes::LADDER_FIELDS;
 use shapes::LADDER_WORDS;
 use shapes::RING_FIELDS;
@@ -12,10 +12,11 @@ use shapes::TEXT;
 use shapes::TYPES;
 use shapes::write_table;
 use shapes::write_text;
-use table::check::Verdict;
-use table::check::check_table;
 use table::layout::layout_of;
 use table::layout::wide;
+use table::numbers::TypeRow;
+use wellformed::check::Verdict;
+use wellformed::check::check_table;
 
 // How many rows of out, from the first, follow each other round the ring from row t on.
 fn in_order(out: &[u32], t: u32) -> usize {
@@ -42,17 +43,17 @@ fn search(label: &[u8], text: &[u8], words: &[u32], t: u32, work: &mut [u32], ou
         return;
     };
     let l = layout_of(words);
-    let marks = 2 * l.types;
+    let room = Work { types: l.types }.order_at(); // for no order: a lookup walks
     if wide(t) >= l.types {
         io::write_all(1, b" no type\n");
         return;
     }
-    if work.len() < marks {
+    if work.len() < room {
         io::write_all(1, b" no room\n");
         return;
     }
-    clear(work, marks);
-    let n = first_cycle(words, l, TypeRow(t), &mut work[..marks], out);
+    clear(work, room);
+    let n = first_cycle(words, l, TypeRow(t), &mut work[..room], out);
     print(n);
     if n <= out.len() {
         print(in_order(&out[..n], t));
@@ -76,7 +77,7 @@ fn ladder(text: &[u8], work: &mut [u32], out: &mut [u32]) {
 
 fn main() {
     let mut text = [0; TEXT];
-    let mut work = [0; 2 * TYPES];
+    let mut work = [0; Work::WORDS * TYPES];
     let mut out = [0; TYPES];
     write_text(&mut text);
     ring(&text, &mut work, &mut out);

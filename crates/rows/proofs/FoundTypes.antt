@@ -6,10 +6,10 @@ use Prim.Native.Nat.{ℕ, _+_, _≤_, _<_, zero-le}
 use native.Mathlib.Omega.{arith}
 use lib.Dec.{ltb, eqb}
 use borrow.Author.Tests.{lt-ltb, le-ltb, ltb-true, ltb-false, eq-eqb, eqb-true}
-use Rattle.rows.specs.declared.numbers.TypeRow.{TypeRow}
+use Rattle.table.specs.declared.numbers.TypeRow.{TypeRow}
 use Rattle.names.proofs.BoolLaws.{decide, true-false}
 use Rattle.rows.proofs.FindLaws.{find-holds, find-least}
-use Rattle.table.specs.Sound.{Sound}
+use Rattle.wellformed.specs.Sound.{Sound}
 use Rattle.rows.specs.declared.types.FoundType.{FoundType}
 use Rattle.rows.specs.declared.types.FoundType.the-variants.{At, Nothing}
 use mathlib.Core.List.{List}

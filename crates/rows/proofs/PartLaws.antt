@@ -11,7 +11,7 @@ use Rattle.names.specs.Count.{part}
 use Rattle.table.specs.declared.layout.Layout.{Layout}
 use Rattle.table.specs.declared.layout.Column.{Column}
 use Rattle.table.specs.Kinds.{kinds}
-use Rattle.table.specs.Sound.{Runs}
+use Rattle.wellformed.specs.Sound.{Runs}
 use Rattle.table.proofs.LayoutLaws.{inside-type, inside-field}
 use Rattle.table.specs.Layout.{mostListed, Inside, Laid, layoutOf, wordAt, startAt, typeName, typeKind, typeCount, fieldCount, fieldWords, argumentWords, edgesStart, fieldsStart, argumentsStart, membersStart, valuesStart, edgesAt, fieldsAt, argumentsAt, membersAt, valuesAt, edgeCount, memberCount, valueCount, nameCount, edgesEnds, fieldsEnds, argumentsEnds, membersEnds, valuesEnds, edgeNames, fieldNames, argumentNames, memberNames, valueNames}
 use Rattle.rows.specs.Parts.{runOf, edgesOf, fieldsOf, argumentsOf, membersOf, valuesOf}

@@ -2,7 +2,7 @@
 use mathlib.Core.List.{List}
 use Prim.Native.Nat.{ℕ}
 use Rattle.table.specs.Layout.{layoutOf}
-use Rattle.table.specs.Sound.{Sound}
+use Rattle.wellformed.specs.Sound.{Sound}
 use Rattle.rows.specs.Readable.{SoundRows, Readable}
 
 pub sound-rows : {text w : List ℕ} → Sound text w → SoundRows w (layoutOf w)

@@ -5,7 +5,7 @@ use Prim.Native.Nat.{ℕ}
 use Rattle.names.specs.Names.{startsReserved, builtinScalar}
 use Rattle.table.specs.declared.layout.Layout.{Layout}
 use Rattle.table.specs.Layout.{Laid}
-use Rattle.table.specs.WellFormed.{bytesOf}
+use Rattle.wellformed.specs.WellFormed.{bytesOf}
 use Rattle.rows.specs.Types.{reserved, builtin}
 
 module _ (text w : List ℕ) (l : Layout) (n : ℕ) (laid : Laid w l) (s : List ℕ) (e : s ≡ bytesOf text w l n) where

@@ -29,6 +29,25 @@ valuesOf w t = runOf w (valueNames (layoutOf w)) (valuesEnds (layoutOf w)) t
 unfoldable pub argumentsOf : List ℕ → ℕ → List ℕ
 argumentsOf w f = runOf w (argumentNames (layoutOf w)) (argumentsEnds (layoutOf w)) f
 
+-- how many edges, members and values stand in a part, and the name of a part's row i
+abbrev pub edgeRows : List ℕ → ℕ
+edgeRows p = length p
+
+abbrev pub edgeNameIn : List ℕ → ℕ → ℕ
+edgeNameIn p i = getD p i 0
+
+abbrev pub memberRows : List ℕ → ℕ
+memberRows p = length p
+
+abbrev pub memberNameIn : List ℕ → ℕ → ℕ
+memberNameIn p i = getD p i 0
+
+abbrev pub valueRows : List ℕ → ℕ
+valueRows p = length p
+
+abbrev pub valueNameIn : List ℕ → ℕ → ℕ
+valueNameIn p i = getD p i 0
+
 -- how many fields stand in a part
 abbrev pub fieldRows : List ℕ → ℕ
 fieldRows p = length p / fieldWords

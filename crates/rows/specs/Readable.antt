@@ -4,8 +4,8 @@ use Prim.Native.Nat.{ℕ, _+_, _≤_, _<_}
 use lib.ListN.{length, getD}
 use Rattle.table.specs.declared.layout.Layout.{Layout}
 use Rattle.table.specs.Layout.{Laid, mostListed, mostArguments}
-use Rattle.table.specs.WellFormed.{nameEnd}
-use Rattle.table.specs.Sound.{SoundWords, SoundRuns}
+use Rattle.wellformed.specs.WellFormed.{nameEnd}
+use Rattle.wellformed.specs.Sound.{SoundWords, SoundRuns}
 use Rattle.rows.specs.Parts.{fieldRows, fieldNameIn, fieldTypeIn, argumentRows, argumentNameIn, argumentTypeIn}
 
 -- the words of a well-formed table, with its layout: each in its range, and ends that cut their sections

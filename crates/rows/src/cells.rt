@@ -1,9 +1,23 @@
-// The words of a row in a part of fields, or of arguments.
+// The words of a row in a part of edges, fields, arguments, members or values.
 ghost use mathlib.Core.Path.{_≡_};
 ghost use Prim.Native.Nat.{_<_};
-ghost use Rattle.rows.specs.Parts.{fieldRows, fieldNameIn, fieldTypeIn, fieldWrapIn, argumentRows, argumentNameIn, argumentTypeIn, argumentWrapIn, argumentDefaultIn};
-use crate::numbers::NameNo;
+ghost use Rattle.rows.specs.Parts.{edgeRows, edgeNameIn, memberRows, memberNameIn, valueRows, valueNameIn, fieldRows, fieldNameIn, fieldTypeIn, fieldWrapIn, argumentRows, argumentNameIn, argumentTypeIn, argumentWrapIn, argumentDefaultIn};
+use names::wrap::Wrap;
 use table::layout::Layout;
+use table::numbers::NameNo;
+
+pub fn edge_rows(edges: &[u32]) -> usize
+    ensures { λ r. ⌜ r ≡ edgeRows (now (edges .entry)) ⌝ }
+{
+    edges.len()
+}
+
+pub fn edge_name(edges: &[u32], i: usize) -> NameNo
+    requires { ⌜ i < edgeRows (now edges) ⌝ }
+    ensures { λ r. ⌜ r .0 ≡ edgeNameIn (now (edges .entry)) i ⌝ }
+{
+    NameNo(edges[i])
+}
 
 pub fn field_rows(fields: &[u32]) -> usize
     ensures { λ r. ⌜ r ≡ fieldRows (now (fields .entry)) ⌝ }
@@ -27,12 +41,12 @@ pub fn field_type(fields: &[u32], i: usize) -> NameNo
     NameNo(fields[at])
 }
 
-pub fn field_wrap(fields: &[u32], i: usize) -> u32
+pub fn field_wrap(fields: &[u32], i: usize) -> Wrap
     requires { ⌜ i < fieldRows (now fields) ⌝ }
-    ensures { λ r. ⌜ r ≡ fieldWrapIn (now (fields .entry)) i ⌝ }
+    ensures { λ r. ⌜ r .0 ≡ fieldWrapIn (now (fields .entry)) i ⌝ }
 {
     let at = Layout::FIELD * i + 2;
-    fields[at]
+    Wrap(fields[at])
 }
 
 pub fn argument_rows(arguments: &[u32]) -> usize
@@ -57,12 +71,12 @@ pub fn argument_type(arguments: &[u32], i: usize) -> NameNo
     NameNo(arguments[at])
 }
 
-pub fn argument_wrap(arguments: &[u32], i: usize) -> u32
+pub fn argument_wrap(arguments: &[u32], i: usize) -> Wrap
     requires { ⌜ i < argumentRows (now arguments) ⌝ }
-    ensures { λ r. ⌜ r ≡ argumentWrapIn (now (arguments .entry)) i ⌝ }
+    ensures { λ r. ⌜ r .0 ≡ argumentWrapIn (now (arguments .entry)) i ⌝ }
 {
     let at = Layout::ARGUMENT * i + 2;
-    arguments[at]
+    Wrap(arguments[at])
 }
 
 pub fn argument_default(arguments: &[u32], i: usize) -> u32
@@ -71,4 +85,30 @@ pub fn argument_default(arguments: &[u32], i: usize) -> u32
 {
     let at = Layout::ARGUMENT * i + 3;
     arguments[at]
+}
+
+pub fn member_rows(members: &[u32]) -> usize
+    ensures { λ r. ⌜ r ≡ memberRows (now (members .entry)) ⌝ }
+{
+    members.len()
+}
+
+pub fn member_name(members: &[u32], i: usize) -> NameNo
+    requires { ⌜ i < memberRows (now members) ⌝ }
+    ensures { λ r. ⌜ r .0 ≡ memberNameIn (now (members .entry)) i ⌝ }
+{
+    NameNo(members[i])
+}
+
+pub fn value_rows(values: &[u32]) -> usize
+    ensures { λ r. ⌜ r ≡ valueRows (now (values .entry)) ⌝ }
+{
+    values.len()
+}
+
+pub fn value_name(values: &[u32], i: usize) -> NameNo
+    requires { ⌜ i < valueRows (now values) ⌝ }
+    ensures { λ r. ⌜ r .0 ≡ valueNameIn (now (values .entry)) i ⌝ }
+{
+    NameNo(values[i])
 }

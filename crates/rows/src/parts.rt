@@ -5,11 +5,11 @@ ghost use lib.ListN.{length};
 ghost use Rattle.table.specs.Layout.{Inside, Laid, wordAt, startAt, edgesStart, membersStart, valuesStart, fieldsStart, argumentsStart};
 ghost use Rattle.rows.specs.Parts.{runOf, edgesOf, membersOf, valuesOf, fieldsOf, argumentsOf};
 ghost use Rattle.rows.specs.Readable.{SoundRows, NamePart, FieldPart, ArgumentPart};
-use crate::numbers::TypeRow;
 use table::layout::Column;
 use table::layout::Layout;
 use table::layout::end_at;
 use table::layout::start_at;
+use table::numbers::TypeRow;
 
 // The words of the rows that belong to row i: `first` is the first column of their section, and `ends` cuts it.
 fn run_of(words: &[u32], first: Column, ends: Column, i: usize) -> &[u32]
@@ -31,7 +31,7 @@ pub fn edges_start(words: &[u32], l: Layout, t: TypeRow) -> usize
     requires { ⌜ t .0 < l .types ⌝ }
     ensures { λ r. ⌜ r ≡ edgesStart (now (words .entry)) (t .0) ⌝ }
 {
-    start_at(words, l.edges_ends(), t.0 as usize)
+    start_at(words, l.edges_ends(), t.index())
 }
 
 pub fn edges_of(words: &[u32], l: Layout, t: TypeRow) -> &[u32]
@@ -40,7 +40,7 @@ pub fn edges_of(words: &[u32], l: Layout, t: TypeRow) -> &[u32]
     ensures { λ r. ⌜ now r ≡ edgesOf (now (words .entry)) (t .0) ⌝ }
     ensures { λ r. ⌜ NamePart l (edgesStart (now (words .entry)) (t .0)) (now r) ⌝ }
 {
-    run_of(words, l.edge_names(), l.edges_ends(), t.0 as usize)
+    run_of(words, l.edge_names(), l.edges_ends(), t.index())
 }
 
 pub fn members_start(words: &[u32], l: Layout, t: TypeRow) -> usize
@@ -48,7 +48,7 @@ pub fn members_start(words: &[u32], l: Layout, t: TypeRow) -> usize
     requires { ⌜ t .0 < l .types ⌝ }
     ensures { λ r. ⌜ r ≡ membersStart (now (words .entry)) (t .0) ⌝ }
 {
-    start_at(words, l.members_ends(), t.0 as usize)
+    start_at(words, l.members_ends(), t.index())
 }
 
 pub fn members_of(words: &[u32], l: Layout, t: TypeRow) -> &[u32]
@@ -57,7 +57,7 @@ pub fn members_of(words: &[u32], l: Layout, t: TypeRow) -> &[u32]
     ensures { λ r. ⌜ now r ≡ membersOf (now (words .entry)) (t .0) ⌝ }
     ensures { λ r. ⌜ NamePart l (membersStart (now (words .entry)) (t .0)) (now r) ⌝ }
 {
-    run_of(words, l.member_names(), l.members_ends(), t.0 as usize)
+    run_of(words, l.member_names(), l.members_ends(), t.index())
 }
 
 pub fn values_start(words: &[u32], l: Layout, t: TypeRow) -> usize
@@ -65,7 +65,7 @@ pub fn values_start(words: &[u32], l: Layout, t: TypeRow) -> usize
     requires { ⌜ t .0 < l .types ⌝ }
     ensures { λ r. ⌜ r ≡ valuesStart (now (words .entry)) (t .0) ⌝ }
 {
-    start_at(words, l.values_ends(), t.0 as usize)
+    start_at(words, l.values_ends(), t.index())
 }
 
 pub fn values_of(words: &[u32], l: Layout, t: TypeRow) -> &[u32]
@@ -74,7 +74,7 @@ pub fn values_of(words: &[u32], l: Layout, t: TypeRow) -> &[u32]
     ensures { λ r. ⌜ now r ≡ valuesOf (now (words .entry)) (t .0) ⌝ }
     ensures { λ r. ⌜ NamePart l (valuesStart (now (words .entry)) (t .0)) (now r) ⌝ }
 {
-    run_of(words, l.value_names(), l.values_ends(), t.0 as usize)
+    run_of(words, l.value_names(), l.values_ends(), t.index())
 }
 
 pub fn fields_start(words: &[u32], l: Layout, t: TypeRow) -> usize
@@ -82,7 +82,7 @@ pub fn fields_start(words: &[u32], l: Layout, t: TypeRow) -> usize
     requires { ⌜ t .0 < l .types ⌝ }
     ensures { λ r. ⌜ r ≡ fieldsStart (now (words .entry)) (t .0) ⌝ }
 {
-    start_at(words, l.fields_ends(), t.0 as usize)
+    start_at(words, l.fields_ends(), t.index())
 }
 
 pub fn fields_of(words: &[u32], l: Layout, t: TypeRow) -> &[u32]
@@ -91,7 +91,7 @@ pub fn fields_of(words: &[u32], l: Layout, t: TypeRow) -> &[u32]
     ensures { λ r. ⌜ now r ≡ fieldsOf (now (words .entry)) (t .0) ⌝ }
     ensures { λ r. ⌜ FieldPart l (fieldsStart (now (words .entry)) (t .0)) (now r) ⌝ }
 {
-    run_of(words, l.field_names(), l.fields_ends(), t.0 as usize)
+    run_of(words, l.field_names(), l.fields_ends(), t.index())
 }
 
 pub fn arguments_start(words: &[u32], l: Layout, f: usize) -> usize

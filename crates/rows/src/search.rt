@@ -7,7 +7,7 @@ use crate::cells::argument_name;
 use crate::cells::argument_rows;
 use crate::cells::field_name;
 use crate::cells::field_rows;
-use crate::numbers::NameNo;
+use table::numbers::NameNo;
 
 // A row of a part.
 pub enum Found {
@@ -21,7 +21,7 @@ pub fn has_name(names: &[u32], name: NameNo) -> bool
 {
     let mut i = 0;
     while i < names.len() {
-        if names[i] == name.0 {
+        if NameNo(names[i]).same(name) {
             return true;
         }
         i += 1;
@@ -36,7 +36,7 @@ pub fn find_field(fields: &[u32], name: NameNo) -> Found
     let rows = field_rows(fields);
     let mut i = 0;
     while i < rows {
-        if field_name(fields, i).0 == name.0 {
+        if field_name(fields, i).same(name) {
             return Found::At(i);
         }
         i += 1;
@@ -51,7 +51,7 @@ pub fn find_argument(arguments: &[u32], name: NameNo) -> Found
     let rows = argument_rows(arguments);
     let mut i = 0;
     while i < rows {
-        if argument_name(arguments, i).0 == name.0 {
+        if argument_name(arguments, i).same(name) {
             return Found::At(i);
         }
         i += 1;

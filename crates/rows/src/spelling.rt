@@ -4,11 +4,11 @@ ghost use Prim.Native.Nat.{_<_};
 ghost use Rattle.table.specs.Layout.{Laid};
 ghost use Rattle.rows.specs.Types.{reserved, builtin};
 ghost use Rattle.rows.specs.Readable.{Spelled};
-use crate::numbers::NameNo;
 use names::name::is_builtin_scalar;
 use names::name::starts_reserved;
 use table::layout::Layout;
-use table::refusal4::name_bytes;
+use table::numbers::NameNo;
+use wellformed::refusal4::name_bytes;
 
 // The name starts with `__`.
 pub fn is_reserved(text: &[u8], words: &[u32], l: Layout, name: NameNo) -> bool
@@ -17,7 +17,7 @@ pub fn is_reserved(text: &[u8], words: &[u32], l: Layout, name: NameNo) -> bool
     requires { ⌜ name .0 < l .names ⌝ }
     ensures { λ r. ⌜ r ≡ reserved (now (text .entry)) (now (words .entry)) (name .0) ⌝ }
 {
-    starts_reserved(name_bytes(text, words, l, name.0 as usize))
+    starts_reserved(name_bytes(text, words, l, name))
 }
 
 // The name is Int, Float, String, Boolean or ID.
@@ -27,5 +27,5 @@ pub fn is_builtin(text: &[u8], words: &[u32], l: Layout, name: NameNo) -> bool
     requires { ⌜ name .0 < l .names ⌝ }
     ensures { λ r. ⌜ r ≡ builtin (now (text .entry)) (now (words .entry)) (name .0) ⌝ }
 {
-    is_builtin_scalar(name_bytes(text, words, l, name.0 as usize))
+    is_builtin_scalar(name_bytes(text, words, l, name))
 }

@@ -1,15 +1,15 @@
 // Types by their rows and by their names.
 ghost use mathlib.Core.Path.{_≡_};
 ghost use Prim.Native.Nat.{_<_};
-ghost use Rattle.table.specs.Layout.{Laid, typeName, typeKind, typeFlag, root};
+ghost use Rattle.table.specs.Layout.{rootWords, Laid, typeName, typeKind, typeFlag, root};
 ghost use Rattle.table.specs.Answers.{kindNumber};
 ghost use Rattle.rows.specs.Readable.{SoundRows};
 ghost use Rattle.rows.specs.Types.{typeNamed, foundAt};
-use crate::numbers::NameNo;
-use crate::numbers::TypeRow;
 use table::kinds::Kind;
 use table::layout::Layout;
 use table::layout::word_at;
+use table::numbers::NameNo;
+use table::numbers::TypeRow;
 
 pub enum FoundType {
     At(TypeRow),
@@ -21,7 +21,7 @@ pub fn type_name(words: &[u32], l: Layout, t: TypeRow) -> NameNo
     requires { ⌜ t .0 < l .types ⌝ }
     ensures { λ r. ⌜ r .0 ≡ typeName (now (words .entry)) (t .0) ⌝ }
 {
-    NameNo(word_at(words, l.type_names(), t.0 as usize))
+    NameNo(word_at(words, l.type_names(), t.index()))
 }
 
 pub fn type_kind(words: &[u32], l: Layout, t: TypeRow) -> u32
@@ -29,7 +29,7 @@ pub fn type_kind(words: &[u32], l: Layout, t: TypeRow) -> u32
     requires { ⌜ t .0 < l .types ⌝ }
     ensures { λ r. ⌜ r ≡ typeKind (now (words .entry)) (t .0) ⌝ }
 {
-    word_at(words, l.type_kinds(), t.0 as usize)
+    word_at(words, l.type_kinds(), t.index())
 }
 
 // The kind as the enum, for a decision on all kinds.
@@ -46,13 +46,13 @@ pub fn type_flag(words: &[u32], l: Layout, t: TypeRow) -> u32
     requires { ⌜ t .0 < l .types ⌝ }
     ensures { λ r. ⌜ r ≡ typeFlag (now (words .entry)) (t .0) ⌝ }
 {
-    word_at(words, l.type_flags(), t.0 as usize)
+    word_at(words, l.type_flags(), t.index())
 }
 
 // The name of the root of an operation, or NONE.
 pub fn root_name(words: &[u32], l: Layout, operation: u32) -> NameNo
     requires { ⌜ Laid (now words) l ⌝ }
-    requires { ⌜ operation < 3 ⌝ }
+    requires { ⌜ operation < rootWords ⌝ }
     ensures { λ r. ⌜ r .0 ≡ root (now (words .entry)) operation ⌝ }
 {
     NameNo(word_at(words, l.roots(), operation as usize))
@@ -66,7 +66,7 @@ pub fn find_type(words: &[u32], l: Layout, name: NameNo) -> FoundType
     let mut t = 0;
     while t < l.types {
         let row = TypeRow(t as u32);
-        if type_name(words, l, row).0 == name.0 {
+        if type_name(words, l, row).same(name) {
             return FoundType::At(row);
         }
         t += 1;

@@ -1,12 +1,5 @@
 pub mod Bounds
-pub mod Names
 pub mod Enum
 pub mod Union
 pub mod Schema
-pub mod InputObject
 pub mod Field
-pub mod FieldTypes
-pub mod Interface
-pub mod Object
-pub mod Validation
-pub mod Examples

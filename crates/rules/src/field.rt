@@ -1,19 +1,15 @@
 // Fields of objects and interfaces: 5; the arguments; then 3 or 19.
-ghost use mathlib.Core.List.{_++_};
 ghost use Prim.Native.Nat.{_+_, _*_, _≤_, _<_};
-ghost use Rattle.table.specs.Layout.{argumentsStart};
 ghost use Rattle.records.specs.Records.{Emitted};
-ghost use Rattle.records.specs.Rows.{atField};
-ghost use Rattle.rows.specs.Parts.{fieldRows, argumentsOf};
-ghost use Rattle.rows.specs.Readable.{Readable, FieldPart};
-ghost use Rattle.order.specs.Order.{Helps};
-ghost use Rattle.rules.specs.Names.{nameRecord};
-ghost use Rattle.rules.specs.InputObject.{argumentsRecords};
-ghost use Rattle.rules.specs.Field.{outputTypeRecord, fieldRecord, fieldsRecords};
-ghost use Rattle.rules.specs.Bounds.{mostOfArguments, mostOfField};
+ghost use Rattle.rows.specs.Parts.{fieldRows};
+ghost use Rattle.rows.specs.Readable.{FieldPart};
+ghost use Rattle.order.specs.Order.{Legible};
+ghost use Rattle.rules.specs.Field.{outputTypeRecord, fieldDefinitionRecord, fieldRecord, fieldsRecords};
+ghost use Rattle.rules.specs.Bounds.{mostOfField};
+ghost use Rattle.inputs.specs.Bounds.{mostOfArguments};
 ghost use Rattle.table.specs.Layout.{mostFields};
-use crate::input_object::validate_argument_definitions;
-use crate::type_system_name::validate_type_system_name;
+use inputs::input_object::validate_argument_definitions;
+use inputs::type_system_name::validate_type_system_name;
 use order::find::look_up;
 use records::Place;
 use records::Record;
@@ -22,15 +18,16 @@ use records::used;
 use rows::cells::field_name;
 use rows::cells::field_rows;
 use rows::cells::field_type;
-use rows::numbers::NameNo;
-use rows::numbers::TypeRow;
 use rows::parts::arguments_of;
 use rows::parts::arguments_start;
 use rows::spelling::is_builtin;
 use rows::types::FoundType;
+use rows::types::type_flag;
 use rows::types::type_kind;
 use table::kinds::Kind;
 use table::layout::Layout;
+use table::numbers::NameNo;
+use table::numbers::TypeRow;
 
 // A type here: 19 for kind 5. Another: 3 unless it is a built-in scalar.
 fn validate_output_type(
@@ -43,9 +40,8 @@ fn validate_output_type(
     row: u32,
     out: &mut [u32],
 ) -> usize
-    requires { ⌜ Readable (now text) (now words) l ⌝ }
+    requires { ⌜ Legible (now text) (now words) l (now order) ⌝ }
     requires { ⌜ name .0 < l .names ⌝ }
-    requires { ⌜ Helps (now words) (l .types) (now order) ⌝ }
     ensures { λ n. ⌜ Emitted (outputTypeRecord (now (text .entry)) (now (words .entry)) (t .0) (name .0) row) (now (out .entry)) (now (out .exit)) n ⌝ }
     ensures { λ n. ⌜ n ≤ 1 ⌝ }
 {
@@ -60,7 +56,7 @@ fn validate_output_type(
             )
         }
         FoundType::At(ty) => {
-            if type_kind(words, l, ty) == Kind::INPUT_OBJECT {
+            if Kind::is_input_object(type_kind(words, l, ty)) {
                 return put(out, Record::output_type(t, row));
             }
             0
@@ -79,13 +75,13 @@ fn validate_field_definition(
     f: usize,
     out: &mut [u32],
 ) -> usize
-    requires { ⌜ Readable (now text) (now words) l ⌝ }
+    requires { ⌜ Legible (now text) (now words) l (now order) ⌝ }
     requires { ⌜ (t .0 < l .types) × (name .0 < l .names) × (f < l .fields) ⌝ }
-    requires { ⌜ Helps (now words) (l .types) (now order) ⌝ }
-    ensures { λ n. ⌜ Emitted (nameRecord (now (text .entry)) (now (words .entry)) (t .0) (name .0) atField f ++ argumentsRecords (now (text .entry)) (now (words .entry)) (t .0) (argumentsStart (now (words .entry)) f) (argumentsOf (now (words .entry)) f)) (now (out .entry)) (now (out .exit)) n ⌝ }
+    ensures { λ n. ⌜ Emitted (fieldDefinitionRecord (now (text .entry)) (now (words .entry)) (t .0) (name .0) f) (now (out .entry)) (now (out .exit)) n ⌝ }
     ensures { λ n. ⌜ n ≤ mostOfArguments + 1 ⌝ }
 {
-    let n = validate_type_system_name(text, words, l, t, name, Place::FIELD, f as u32, out);
+    let flag = type_flag(words, l, t);
+    let n = validate_type_system_name(text, words, l, t, flag, name, Place::FIELD, f as u32, out);
     let at = used(n, out.len());
     let first = arguments_start(words, l, f);
     n
@@ -113,10 +109,9 @@ fn validate_field(
     i: usize,
     out: &mut [u32],
 ) -> usize
-    requires { ⌜ Readable (now text) (now words) l ⌝ }
+    requires { ⌜ Legible (now text) (now words) l (now order) ⌝ }
     requires { ⌜ (t .0 < l .types) × (i < fieldRows (now fields)) ⌝ }
     requires { ⌜ FieldPart l first (now fields) ⌝ }
-    requires { ⌜ Helps (now words) (l .types) (now order) ⌝ }
     ensures { λ n. ⌜ Emitted (fieldRecord (now (text .entry)) (now (words .entry)) (t .0) first (now (fields .entry)) i) (now (out .entry)) (now (out .exit)) n ⌝ }
     ensures { λ n. ⌜ n ≤ mostOfField ⌝ }
 {
@@ -146,10 +141,9 @@ pub fn validate_field_definitions(
     fields: &[u32],
     out: &mut [u32],
 ) -> usize
-    requires { ⌜ Readable (now text) (now words) l ⌝ }
+    requires { ⌜ Legible (now text) (now words) l (now order) ⌝ }
     requires { ⌜ t .0 < l .types ⌝ }
     requires { ⌜ FieldPart l first (now fields) ⌝ }
-    requires { ⌜ Helps (now words) (l .types) (now order) ⌝ }
     ensures { λ n. ⌜ Emitted (fieldsRecords (now (text .entry)) (now (words .entry)) (t .0) first (now (fields .entry))) (now (out .entry)) (now (out .exit)) n ⌝ }
     ensures { λ n. ⌜ n ≤ mostOfField * mostFields ⌝ }
 {

@@ -3,7 +3,7 @@ ghost use mathlib.Core.Path.{_≡_};
 ghost use Prim.Native.Nat.{_≤_, _<_};
 ghost use Rattle.table.specs.Layout.{Laid};
 ghost use Rattle.records.specs.Records.{Emitted, each};
-ghost use Rattle.order.specs.Order.{Helps};
+ghost use Rattle.order.specs.Order.{Indexed};
 ghost use Rattle.rules.specs.Schema.{rootType, firstRoot, rootRecords, queryRecord, schemaRecords};
 ghost use Rattle.rules.specs.Bounds.{mostOfRoots};
 use order::find::look_up;
@@ -11,13 +11,13 @@ use records::Place;
 use records::Record;
 use records::put;
 use records::used;
-use rows::numbers::NameNo;
-use rows::numbers::TypeRow;
 use rows::types::FoundType;
 use rows::types::root_name;
 use rows::types::type_kind;
 use table::kinds::Kind;
 use table::layout::Layout;
+use table::numbers::NameNo;
+use table::numbers::TypeRow;
 
 // 2 for a root that is no object, 3 for one that is undefined.
 fn validate_root_type(
@@ -28,8 +28,7 @@ fn validate_root_type(
     name: NameNo,
     out: &mut [u32],
 ) -> usize
-    requires { ⌜ Laid (now words) l ⌝ }
-    requires { ⌜ Helps (now words) (l .types) (now order) ⌝ }
+    requires { ⌜ Indexed (now words) l (now order) ⌝ }
     ensures { λ n. ⌜ Emitted (rootType (now (words .entry)) operation (name .0)) (now (out .entry)) (now (out .exit)) n ⌝ }
     ensures { λ n. ⌜ n ≤ 1 ⌝ }
 {
@@ -55,7 +54,7 @@ fn first_root(words: &[u32], l: Layout, operation: u32, name: NameNo) -> u32
 {
     let mut first = 0;
     while first < operation {
-        if root_name(words, l, first).0 == name.0 {
+        if root_name(words, l, first).same(name) {
             return first;
         }
         first += 1;
@@ -64,14 +63,13 @@ fn first_root(words: &[u32], l: Layout, operation: u32, name: NameNo) -> u32
 }
 
 fn validate_root(words: &[u32], l: Layout, order: &[u32], operation: u32, out: &mut [u32]) -> usize
-    requires { ⌜ Laid (now words) l ⌝ }
+    requires { ⌜ Indexed (now words) l (now order) ⌝ }
     requires { ⌜ operation < 3 ⌝ }
-    requires { ⌜ Helps (now words) (l .types) (now order) ⌝ }
     ensures { λ n. ⌜ Emitted (rootRecords (now (words .entry)) operation) (now (out .entry)) (now (out .exit)) n ⌝ }
     ensures { λ n. ⌜ n ≤ 2 ⌝ }
 {
     let name = root_name(words, l, operation);
-    if name.0 == Record::NONE {
+    if name.is_none() {
         return 0;
     }
     let n = validate_root_type(words, l, order, operation, name, out);
@@ -93,8 +91,7 @@ fn validate_root_operation_definitions(
     order: &[u32],
     out: &mut [u32],
 ) -> usize
-    requires { ⌜ Laid (now words) l ⌝ }
-    requires { ⌜ Helps (now words) (l .types) (now order) ⌝ }
+    requires { ⌜ Indexed (now words) l (now order) ⌝ }
     ensures { λ n. ⌜ Emitted (each (rootRecords (now (words .entry))) 3) (now (out .entry)) (now (out .exit)) n ⌝ }
     ensures { λ n. ⌜ n ≤ 6 ⌝ }
 {
@@ -114,15 +111,14 @@ fn validate_query(words: &[u32], l: Layout, out: &mut [u32]) -> usize
     ensures { λ n. ⌜ Emitted (queryRecord (now (words .entry))) (now (out .entry)) (now (out .exit)) n ⌝ }
     ensures { λ n. ⌜ n ≤ 1 ⌝ }
 {
-    if root_name(words, l, 0).0 == Record::NONE {
+    if root_name(words, l, 0).is_none() {
         return put(out, Record::query_root_operation_type());
     }
     0
 }
 
 pub fn validate_schema_definition(words: &[u32], l: Layout, order: &[u32], out: &mut [u32]) -> usize
-    requires { ⌜ Laid (now words) l ⌝ }
-    requires { ⌜ Helps (now words) (l .types) (now order) ⌝ }
+    requires { ⌜ Indexed (now words) l (now order) ⌝ }
     ensures { λ n. ⌜ Emitted (schemaRecords (now (words .entry))) (now (out .entry)) (now (out .exit)) n ⌝ }
     ensures { λ n. ⌜ n ≤ mostOfRoots ⌝ }
 {

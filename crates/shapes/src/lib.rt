@@ -1,8 +1,27 @@
-// Schema tables of 1,024 input objects, and their text, for programs that run at the limits.
+// Schema tables for the programs that run the library: document 01's whole case, and tables of 1,024 input objects with their text.
 //
 // The ring: type i has one field, to type i + 1; the last leads back to type 0.
 // The ladder: type i has two fields, to the types i + 1 and i + 2; the last but one has one, and the last has none.
+ghost use mathlib.Core.Path.{_≡_};
 ghost use Prim.Native.Nat.{_≤_, _<_};
+ghost use Rattle.records.specs.Records.{each};
+ghost use Rattle.building.specs.Building.{Added};
+ghost use Rattle.shapes.specs.Shapes.{types, fieldsUpTo, nextType, text, names, typeOf, fieldOf, table};
+use building::Counts;
+use building::Ends;
+use building::field_row;
+use building::header;
+use building::name_row;
+use building::no_roots;
+use building::one_letter;
+use building::two_letters;
+use building::type_row;
+use names::wrap::Wrap;
+use table::kinds::Kind;
+use table::layout::Layout;
+use table::numbers::NameNo;
+
+pub mod whole_case;
 
 pub const TYPES: usize = 1024;
 
@@ -11,87 +30,57 @@ const NAMES: usize = TYPES + 2;
 
 pub const TEXT: usize = 2 * TYPES + 2;
 
-const TYPES_AT: usize = 7 + 2 * NAMES;
-
-const FIELDS_AT: usize = TYPES_AT + 7 * TYPES;
+const FIELDS_AT: usize = Layout::HEADER + Layout::NAME * NAMES + Layout::TYPE * TYPES;
 
 pub const RING_FIELDS: usize = TYPES;
 
-pub const RING_WORDS: usize = FIELDS_AT + 5 * RING_FIELDS + 3;
+pub const RING_WORDS: usize = FIELDS_AT + Layout::FIELD * RING_FIELDS + Layout::ROOTS;
 
 pub const LADDER_FIELDS: usize = 2 * TYPES - 3;
 
-pub const LADDER_WORDS: usize = FIELDS_AT + 5 * LADDER_FIELDS + 3;
+pub const LADDER_WORDS: usize = FIELDS_AT + Layout::FIELD * LADDER_FIELDS + Layout::ROOTS;
 
 pub enum Shape {
     Ring,
     Ladder,
 }
 
-fn store(words: &mut [u32], at: usize, value: usize)
-    requires { ⌜ value < 65536 ⌝ }
+// The names: two letters for each type, and one for each of two fields.
+pub fn write_text(bytes: &mut [u8]) -> usize
+    ensures { λ r. ⌜ Added 0 text (now (bytes .entry)) (now (bytes .exit)) r ⌝ }
 {
-    if at < words.len() {
-        words[at] = value as u32;
-    }
-}
-
-fn store_none(words: &mut [u32], at: usize) {
-    if at < words.len() {
-        words[at] = 4294967295;
-    }
-}
-
-fn store_byte(text: &mut [u8], at: usize, value: u8) {
-    if at < text.len() {
-        text[at] = value;
-    }
-}
-
-// The letter of a digit below 32; letters rise as digits do.
-fn letter(digit: usize) -> u8
-    requires { ⌜ digit < 32 ⌝ }
-{
-    if digit < 26 {
-        b'A' + digit as u8
-    } else {
-        b'a' + (digit as u8 - 26)
-    }
-}
-
-// The name of type i is two letters, the digits of i.
-pub fn write_text(text: &mut [u8]) {
+    let mut at = 0;
     let mut i = 0;
     while i < TYPES {
-        store_byte(text, 2 * i, letter(i / 32));
-        store_byte(text, 2 * i + 1, letter(i % 32));
+        at = two_letters(bytes, at, i);
         i += 1;
     }
-    store_byte(text, 2 * TYPES, b'y');
-    store_byte(text, 2 * TYPES + 1, b'z');
+    at = one_letter(bytes, at, b'y');
+    one_letter(bytes, at, b'z')
 }
 
-fn write_names(words: &mut [u32]) {
+fn write_names(words: &mut [u32], at: usize) -> usize
+    ensures { λ r. ⌜ Added at names (now (words .entry)) (now (words .exit)) r ⌝ }
+{
+    let mut next = at;
     let mut i = 0;
     while i < TYPES {
-        store(words, 7 + 2 * i, 2 * i);
-        store(words, 8 + 2 * i, 2);
+        next = name_row(words, next, (2 * i) as u32, 2);
         i += 1;
     }
-    store(words, 7 + 2 * TYPES, 2 * TYPES);
-    store(words, 8 + 2 * TYPES, 1);
-    store(words, 9 + 2 * TYPES, 2 * TYPES + 1);
-    store(words, 10 + 2 * TYPES, 1);
+    next = name_row(words, next, (2 * TYPES) as u32, 1);
+    name_row(words, next, (2 * TYPES + 1) as u32, 1)
 }
 
 // The fields of the types up to type i.
-fn fields_end(shape: Shape, i: usize) -> usize
-    requires { ⌜ i < 1024 ⌝ }
+fn fields_up_to(shape: Shape, i: usize) -> usize
+    requires { ⌜ i < types ⌝ }
+    ensures { λ r. ⌜ r ≡ fieldsUpTo shape i ⌝ }
     ensures { λ r. ⌜ r < 65536 ⌝ }
 {
     match shape {
         Shape::Ring => i + 1,
-        Shape::Ladder => if 2 * i + 2 < LADDER_FIELDS {
+        Shape::Ladder => if 2 * i + 2 <= LADDER_FIELDS {
             2 * i + 2
         } else {
             LADDER_FIELDS
@@ -102,6 +91,7 @@ fn fields_end(shape: Shape, i: usize) -> usize
 // The type that field f leads to.
 fn next_type(shape: Shape, f: usize) -> usize
     requires { ⌜ f < 8192 ⌝ }
+    ensures { λ r. ⌜ r ≡ nextType shape f ⌝ }
     ensures { λ r. ⌜ r < 65536 ⌝ }
 {
     match shape {
@@ -110,40 +100,57 @@ fn next_type(shape: Shape, f: usize) -> usize
     }
 }
 
-fn write_types(words: &mut [u32], shape: Shape) {
+fn write_types(words: &mut [u32], at: usize, shape: Shape) -> usize
+    ensures { λ r. ⌜ Added at (each (typeOf shape) types) (now (words .entry)) (now (words .exit)) r ⌝ }
+{
+    let mut next = at;
     let mut i = 0;
     while i < TYPES {
-        store(words, TYPES_AT + 7 * i, i);
-        store(words, TYPES_AT + 7 * i + 1, 5);
-        store(words, TYPES_AT + 7 * i + 4, fields_end(shape, i));
+        let ends = Ends {
+            edges: 0,
+            fields: fields_up_to(shape, i) as u32,
+            members: 0,
+            values: 0,
+        };
+        next = type_row(words, next, NameNo(i as u32), Kind::INPUT_OBJECT, 0, ends);
         i += 1;
     }
+    next
 }
 
 // Fields y and z in turn, each non-null.
-fn write_fields(words: &mut [u32], shape: Shape, fields: usize)
+fn write_fields(words: &mut [u32], at: usize, shape: Shape, fields: usize) -> usize
     requires { ⌜ fields ≤ 8192 ⌝ }
+    ensures { λ r. ⌜ Added at (each (fieldOf shape) fields) (now (words .entry)) (now (words .exit)) r ⌝ }
 {
+    let mut next = at;
     let mut f = 0;
     while f < fields {
-        store(words, FIELDS_AT + 5 * f, TYPES + f % 2);
-        store(words, FIELDS_AT + 5 * f + 1, next_type(shape, f));
-        store(words, FIELDS_AT + 5 * f + 2, 16);
+        let name = NameNo((TYPES + f % 2) as u32);
+        let ty = NameNo(next_type(shape, f) as u32);
+        next = field_row(words, next, name, ty, Wrap::REQUIRED, 0, 0);
         f += 1;
     }
+    next
 }
 
-pub fn write_table(words: &mut [u32], shape: Shape, fields: usize)
+// A table of a shape that has so many fields.
+pub fn write_table(words: &mut [u32], shape: Shape, fields: usize) -> usize
     requires { ⌜ fields ≤ 8192 ⌝ }
+    ensures { λ r. ⌜ Added 0 (table shape fields) (now (words .entry)) (now (words .exit)) r ⌝ }
 {
-    store(words, 0, NAMES);
-    store(words, 1, TYPES);
-    store(words, 3, fields);
-    write_names(words);
-    write_types(words, shape);
-    write_fields(words, shape, fields);
-    let roots = FIELDS_AT + 5 * fields;
-    store_none(words, roots);
-    store_none(words, roots + 1);
-    store_none(words, roots + 2);
+    let counts = Counts {
+        names: NAMES as u32,
+        types: TYPES as u32,
+        edges: 0,
+        fields: fields as u32,
+        arguments: 0,
+        members: 0,
+        values: 0,
+    };
+    let names_at = header(words, counts);
+    let types_at = write_names(words, names_at);
+    let fields_at = write_types(words, types_at, shape);
+    let roots_at = write_fields(words, fields_at, shape, fields);
+    no_roots(words, roots_at)
 }

@@ -25,13 +25,21 @@ inputObject = 5
 abbrev pub kinds : ℕ
 kinds = 6
 
+-- an object or an interface
+abbrev pub composite : ℕ → Bool
+composite k = eqb k object || eqb k interface
+
+-- an input object: wherever document 01 says kind 5, this is asked
+unfoldable pub inputObjectKind : ℕ → Bool
+inputObjectKind k = eqb k inputObject
+
 -- edges stand on objects and interfaces alone
 abbrev pub ownsEdges : ℕ → Bool
-ownsEdges k = eqb k object || eqb k interface
+ownsEdges k = composite k
 
 -- fields on these and on input objects
 abbrev pub ownsFields : ℕ → Bool
-ownsFields k = eqb k object || eqb k interface || eqb k inputObject
+ownsFields k = composite k || inputObjectKind k
 
 -- members on unions
 abbrev pub ownsMembers : ℕ → Bool
@@ -43,8 +51,8 @@ ownsValues k = eqb k enum
 
 -- arguments on fields of objects and interfaces
 abbrev pub takesArguments : ℕ → Bool
-takesArguments k = eqb k object || eqb k interface
+takesArguments k = composite k
 
 -- a default of 1 on fields of input objects
 abbrev pub takesDefault : ℕ → Bool
-takesDefault k = eqb k inputObject
+takesDefault k = inputObjectKind k

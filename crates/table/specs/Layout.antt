@@ -22,18 +22,27 @@ headerWords = 7
 abbrev pub rootWords : ℕ
 rootWords = 3
 
--- the words of a row of each section that has more than one
+-- the words of a row of each section
 abbrev pub nameWords : ℕ
 nameWords = 2
 
 abbrev pub typeWords : ℕ
 typeWords = 7
 
+abbrev pub edgeWords : ℕ
+edgeWords = 1
+
 abbrev pub fieldWords : ℕ
 fieldWords = 5
 
 abbrev pub argumentWords : ℕ
 argumentWords = 4
+
+abbrev pub memberWords : ℕ
+memberWords = 1
+
+abbrev pub valueWords : ℕ
+valueWords = 1
 
 -- the most rows of each section, and the most bytes of the text
 abbrev pub mostNames : ℕ
@@ -94,7 +103,7 @@ unfoldable pub edgesAt : List ℕ → ℕ
 edgesAt w = typesAt w + typeWords * typeCount w
 
 unfoldable pub fieldsAt : List ℕ → ℕ
-fieldsAt w = edgesAt w + edgeCount w
+fieldsAt w = edgesAt w + edgeWords * edgeCount w
 
 unfoldable pub argumentsAt : List ℕ → ℕ
 argumentsAt w = fieldsAt w + fieldWords * fieldCount w
@@ -103,10 +112,10 @@ unfoldable pub membersAt : List ℕ → ℕ
 membersAt w = argumentsAt w + argumentWords * argumentCount w
 
 unfoldable pub valuesAt : List ℕ → ℕ
-valuesAt w = membersAt w + memberCount w
+valuesAt w = membersAt w + memberWords * memberCount w
 
 unfoldable pub rootsAt : List ℕ → ℕ
-rootsAt w = valuesAt w + valueCount w
+rootsAt w = valuesAt w + valueWords * valueCount w
 
 -- the counts and the starts of the sections, all together
 abbrev pub layoutOf : List ℕ → Layout
@@ -130,7 +139,7 @@ layoutOf w = record {
 -- the length of a table: 10 + 2N + 7T + I + 5F + 4A + M + V
 abbrev pub tableLength : Layout → ℕ
 tableLength l =
-    headerWords + rootWords + nameWords * l .names + typeWords * l .types + l .edges + fieldWords * l .fields + argumentWords * l .arguments + l .members + l .values
+    headerWords + rootWords + nameWords * l .names + typeWords * l .types + edgeWords * l .edges + fieldWords * l .fields + argumentWords * l .arguments + memberWords * l .members + valueWords * l .values
 
 -- Columns. A column is one word of each row of a section: that of row i stands at base + width * i, and there are so many rows.
 
@@ -167,7 +176,7 @@ valuesEnds l = typeColumn l 6
 
 -- an edge's interface name
 abbrev pub edgeNames : Layout → Column
-edgeNames l = record { base = l .«edges_at»; width = 1; rows = l .edges }
+edgeNames l = record { base = l .«edges_at»; width = edgeWords; rows = l .edges }
 
 -- a field's name, type name, wrap, arguments end, default
 abbrev pub fieldColumn : Layout → ℕ → Column
@@ -206,11 +215,11 @@ argumentDefaults l = argumentColumn l 3
 
 -- a member's name
 abbrev pub memberNames : Layout → Column
-memberNames l = record { base = l .«members_at»; width = 1; rows = l .members }
+memberNames l = record { base = l .«members_at»; width = memberWords; rows = l .members }
 
 -- a value's name
 abbrev pub valueNames : Layout → Column
-valueNames l = record { base = l .«values_at»; width = 1; rows = l .values }
+valueNames l = record { base = l .«values_at»; width = valueWords; rows = l .values }
 
 -- the roots, as a column of three
 abbrev pub roots : Layout → Column
@@ -335,11 +344,11 @@ pub record Laid (w : List ℕ) (l : Layout) : Type 0 where
   pub same : l ≡ layoutOf w
   pub types-at : l .«types_at» ≡ headerWords + nameWords * l .names
   pub edges-at : l .«edges_at» ≡ l .«types_at» + typeWords * l .types
-  pub fields-at : l .«fields_at» ≡ l .«edges_at» + l .edges
+  pub fields-at : l .«fields_at» ≡ l .«edges_at» + edgeWords * l .edges
   pub arguments-at : l .«arguments_at» ≡ l .«fields_at» + fieldWords * l .fields
   pub members-at : l .«members_at» ≡ l .«arguments_at» + argumentWords * l .arguments
-  pub values-at : l .«values_at» ≡ l .«members_at» + l .members
-  pub roots-at : l .«roots_at» ≡ l .«values_at» + l .values
+  pub values-at : l .«values_at» ≡ l .«members_at» + memberWords * l .members
+  pub roots-at : l .«roots_at» ≡ l .«values_at» + valueWords * l .values
   pub whole : length w ≡ l .«roots_at» + rootWords
   pub names-most : l .names ≤ mostNames
   pub types-most : l .types ≤ mostTypes

@@ -1,6 +1,5 @@
 pub mod Kinds
 pub mod Layout
-pub mod WellFormed
+pub mod Refusals
 pub mod Answers
-pub mod Sound
-pub mod Examples
+pub mod Tables

@@ -5,13 +5,10 @@ use Prim.Native.Nat.{ℕ}
 use Rattle.table.specs.Answers.{kindNumber}
 use Rattle.table.specs.declared.kinds.Kind.{Kind}
 use Rattle.table.specs.declared.kinds.Kind.the-variants.{Scalar, Object, Interface, Union, Enum, InputObject}
-use Rattle.table.specs.Layout.{typeKind, fieldsStart, membersStart, valuesStart}
-use Rattle.rows.specs.Parts.{fieldsOf, membersOf, valuesOf}
-use Rattle.rules.specs.Enum.{enumRecords}
-use Rattle.rules.specs.Union.{unionRecords}
-use Rattle.rules.specs.InputObject.{inputObjectRecords}
-use Rattle.rules.specs.Object.{objectRecords, interfaceRecords}
-use Rattle.rules.specs.Validation.{kindRecords}
+use Rattle.table.specs.Kinds.{inputObjectKind}
+use Rattle.table.specs.Layout.{typeKind}
+use Rattle.validation.specs.Object.{objectRecords, interfaceRecords}
+use Rattle.validation.specs.Validation.{ofUnion, ofEnum, ofInputObject, kindRecords}
 
 -- k is the kind that was read of type t
 module _ (text w : List ℕ) (cycle t : ℕ) (k : Kind) (read : kindNumber k ≡ typeKind w t) where
@@ -19,7 +16,7 @@ module _ (text w : List ℕ) (cycle t : ℕ) (k : Kind) (read : kindNumber k ≡
   is x e = sym read ∙ ap kindNumber e
 
   pub kind-scalar : k ≡ Scalar → kindRecords text w cycle t ≡ []
-  unfolding kindRecords
+  unfolding kindRecords inputObjectKind
   kind-scalar e = rw (is Scalar e)
 
   pub kind-object : k ≡ Object → kindRecords text w cycle t ≡ objectRecords text w t
@@ -30,14 +27,14 @@ module _ (text w : List ℕ) (cycle t : ℕ) (k : Kind) (read : kindNumber k ≡
   unfolding kindRecords
   kind-interface e = rw (is Interface e)
 
-  pub kind-union : k ≡ Union → kindRecords text w cycle t ≡ unionRecords w t (membersStart w t) (membersOf w t)
+  pub kind-union : k ≡ Union → kindRecords text w cycle t ≡ ofUnion w t
   unfolding kindRecords
   kind-union e = rw (is Union e)
 
-  pub kind-enum : k ≡ Enum → kindRecords text w cycle t ≡ enumRecords text w t (valuesStart w t) (valuesOf w t)
+  pub kind-enum : k ≡ Enum → kindRecords text w cycle t ≡ ofEnum text w t
   unfolding kindRecords
   kind-enum e = rw (is Enum e)
 
-  pub kind-input-object : k ≡ InputObject → kindRecords text w cycle t ≡ inputObjectRecords text w t cycle (fieldsStart w t) (fieldsOf w t)
-  unfolding kindRecords
+  pub kind-input-object : k ≡ InputObject → kindRecords text w cycle t ≡ ofInputObject text w cycle t
+  unfolding kindRecords inputObjectKind
   kind-input-object e = rw (is InputObject e)

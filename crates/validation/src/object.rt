@@ -1,28 +1,24 @@
 // Object: its fields; 7; its edges. Interface: 6 per edge naming itself, then as object.
-ghost use mathlib.Core.List.{_∷_, [], _++_};
 ghost use Prim.Native.Nat.{_≤_, _<_};
-ghost use lib.Dec.{eqb};
-ghost use Rattle.records.specs.Records.{Emitted, when};
-ghost use Rattle.records.specs.Rows.{emptyFieldSet};
-ghost use Rattle.rows.specs.Parts.{fieldRows};
-ghost use Rattle.rows.specs.Readable.{Readable, FieldPart};
-ghost use Rattle.order.specs.Order.{Helps};
-ghost use Rattle.rules.specs.Field.{fieldsRecords};
-ghost use Rattle.rules.specs.Object.{objectRecords, interfaceRecords};
-ghost use Rattle.rules.specs.Bounds.{mostOfFields, mostOfObject, mostOfKind};
+ghost use Rattle.records.specs.Records.{Emitted};
+ghost use Rattle.rows.specs.Readable.{FieldPart};
+ghost use Rattle.order.specs.Order.{Legible};
+ghost use Rattle.validation.specs.Object.{fieldSetRecords, objectRecords, interfaceRecords};
+ghost use Rattle.validation.specs.Bounds.{mostOfFields, mostOfObject, mostOfKind};
+use implementing::implementor::Implementor;
 use implementing::interface::validate_edges;
 use implementing::recursive_interface::validate_self_edges;
 use records::Record;
 use records::put;
 use records::used;
 use rows::cells::field_rows;
-use rows::numbers::TypeRow;
 use rows::parts::edges_of;
 use rows::parts::edges_start;
 use rows::parts::fields_of;
 use rows::parts::fields_start;
 use rules::field::validate_field_definitions;
 use table::layout::Layout;
+use table::numbers::TypeRow;
 
 // The fields; 7 where there is none.
 fn validate_fields(
@@ -35,11 +31,10 @@ fn validate_fields(
     fields: &[u32],
     out: &mut [u32],
 ) -> usize
-    requires { ⌜ Readable (now text) (now words) l ⌝ }
+    requires { ⌜ Legible (now text) (now words) l (now order) ⌝ }
     requires { ⌜ t .0 < l .types ⌝ }
     requires { ⌜ FieldPart l first (now fields) ⌝ }
-    requires { ⌜ Helps (now words) (l .types) (now order) ⌝ }
-    ensures { λ n. ⌜ Emitted (fieldsRecords (now (text .entry)) (now (words .entry)) (t .0) first (now (fields .entry)) ++ when (eqb (fieldRows (now (fields .entry))) 0) (emptyFieldSet (t .0) ∷ [])) (now (out .entry)) (now (out .exit)) n ⌝ }
+    ensures { λ n. ⌜ Emitted (fieldSetRecords (now (text .entry)) (now (words .entry)) (t .0) first (now (fields .entry))) (now (out .entry)) (now (out .exit)) n ⌝ }
     ensures { λ n. ⌜ n ≤ mostOfFields ⌝ }
 {
     let n = validate_field_definitions(text, words, l, order, t, first, fields, out);
@@ -58,30 +53,23 @@ pub fn validate_object_type_definition(
     t: TypeRow,
     out: &mut [u32],
 ) -> usize
-    requires { ⌜ Readable (now text) (now words) l ⌝ }
+    requires { ⌜ Legible (now text) (now words) l (now order) ⌝ }
     requires { ⌜ t .0 < l .types ⌝ }
-    requires { ⌜ Helps (now words) (l .types) (now order) ⌝ }
     ensures { λ n. ⌜ Emitted (objectRecords (now (text .entry)) (now (words .entry)) (t .0)) (now (out .entry)) (now (out .exit)) n ⌝ }
     ensures { λ n. ⌜ n ≤ mostOfObject ⌝ }
 {
-    let first = edges_start(words, l, t);
+    let edges_first = edges_start(words, l, t);
     let edges = edges_of(words, l, t);
     let fields_first = fields_start(words, l, t);
     let fields = fields_of(words, l, t);
     let n = validate_fields(text, words, l, order, t, fields_first, fields, out);
     let at = used(n, out.len());
-    n
-        + validate_edges(
-            words,
-            l,
-            order,
-            t,
-            first,
-            edges,
-            fields_first,
-            fields,
-            &mut out[at..],
-        )
+    let own = Implementor {
+        ty: t,
+        edges_first,
+        fields_first,
+    };
+    n + validate_edges(words, l, order, own, edges, fields, &mut out[at..])
 }
 
 pub fn validate_interface_definition(
@@ -92,9 +80,8 @@ pub fn validate_interface_definition(
     t: TypeRow,
     out: &mut [u32],
 ) -> usize
-    requires { ⌜ Readable (now text) (now words) l ⌝ }
+    requires { ⌜ Legible (now text) (now words) l (now order) ⌝ }
     requires { ⌜ t .0 < l .types ⌝ }
-    requires { ⌜ Helps (now words) (l .types) (now order) ⌝ }
     ensures { λ n. ⌜ Emitted (interfaceRecords (now (text .entry)) (now (words .entry)) (t .0)) (now (out .entry)) (now (out .exit)) n ⌝ }
     ensures { λ n. ⌜ n ≤ mostOfKind ⌝ }
 {

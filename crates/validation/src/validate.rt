@@ -1,23 +1,19 @@
 // The list of a whole table: the schema's records, then the types' in row order, by kind (the Rust's schema/validation.rs).
 ghost use Prim.Native.Nat.{_+_, _*_, _≤_, _<_};
-ghost use lib.ListN.{length, getD};
-ghost use Rattle.records.specs.Records.{Emitted, each};
-ghost use Rattle.table.specs.Layout.{membersStart, valuesStart, fieldsStart};
-ghost use Rattle.rows.specs.Parts.{membersOf, valuesOf, fieldsOf};
-ghost use Rattle.rows.specs.Readable.{SoundRows, Readable};
-ghost use Rattle.order.specs.Order.{Helps};
-ghost use Rattle.rules.specs.Enum.{enumRecords};
-ghost use Rattle.rules.specs.Union.{unionRecords};
-ghost use Rattle.rules.specs.InputObject.{inputObjectRecords};
-ghost use Rattle.rules.specs.Validation.{kindRecords, typeRecords};
-ghost use Rattle.rules.specs.Validation.{records as listOf};
-ghost use Rattle.rules.specs.Bounds.{mostOfKind, mostOfType, mostRecords};
+ghost use lib.ListN.{length};
+ghost use Rattle.records.specs.Records.{Emitted};
+ghost use Rattle.rows.specs.Readable.{Readable};
+ghost use Rattle.order.specs.Order.{Indexed, Legible};
+ghost use Rattle.validation.specs.Validation.{ofUnion, ofEnum, ofInputObject, kindRecords, typeList, typesRecords, countsOf};
+ghost use Rattle.validation.specs.Validation.{records as listOf};
+ghost use Rattle.validation.specs.Bounds.{mostOfKind, mostOfType, mostRecords};
 ghost use Rattle.table.specs.Layout.{mostMembers, mostValues, mostFields, mostTypes};
 use crate::object::validate_interface_definition;
 use crate::object::validate_object_type_definition;
+use inputs::input_object::validate_input_object_definition;
+use inputs::type_system_name::validate_type_system_name;
 use records::Place;
 use records::used;
-use rows::numbers::TypeRow;
 use rows::parts::fields_of;
 use rows::parts::fields_start;
 use rows::parts::members_of;
@@ -25,21 +21,20 @@ use rows::parts::members_start;
 use rows::parts::values_of;
 use rows::parts::values_start;
 use rows::types::kind_of;
+use rows::types::type_flag;
 use rows::types::type_name;
 use rules::enum_::validate_enum_definition;
-use rules::input_object::validate_input_object_definition;
 use rules::schema::validate_schema_definition;
-use rules::type_system_name::validate_type_system_name;
 use rules::union_::validate_union_definition;
 use table::kinds::Kind;
 use table::layout::Layout;
+use table::numbers::TypeRow;
 
 // The parts of a union, an enum and an input object, handed on.
 fn validate_union(words: &[u32], l: Layout, order: &[u32], t: TypeRow, out: &mut [u32]) -> usize
-    requires { ⌜ SoundRows (now words) l ⌝ }
+    requires { ⌜ Indexed (now words) l (now order) ⌝ }
     requires { ⌜ t .0 < l .types ⌝ }
-    requires { ⌜ Helps (now words) (l .types) (now order) ⌝ }
-    ensures { λ n. ⌜ Emitted (unionRecords (now (words .entry)) (t .0) (membersStart (now (words .entry)) (t .0)) (membersOf (now (words .entry)) (t .0))) (now (out .entry)) (now (out .exit)) n ⌝ }
+    ensures { λ n. ⌜ Emitted (ofUnion (now (words .entry)) (t .0)) (now (out .entry)) (now (out .exit)) n ⌝ }
     ensures { λ n. ⌜ n ≤ mostMembers + 1 ⌝ }
 {
     let first = members_start(words, l, t);
@@ -49,7 +44,7 @@ fn validate_union(words: &[u32], l: Layout, order: &[u32], t: TypeRow, out: &mut
 fn validate_enum(text: &[u8], words: &[u32], l: Layout, t: TypeRow, out: &mut [u32]) -> usize
     requires { ⌜ Readable (now text) (now words) l ⌝ }
     requires { ⌜ t .0 < l .types ⌝ }
-    ensures { λ n. ⌜ Emitted (enumRecords (now (text .entry)) (now (words .entry)) (t .0) (valuesStart (now (words .entry)) (t .0)) (valuesOf (now (words .entry)) (t .0))) (now (out .entry)) (now (out .exit)) n ⌝ }
+    ensures { λ n. ⌜ Emitted (ofEnum (now (text .entry)) (now (words .entry)) (t .0)) (now (out .entry)) (now (out .exit)) n ⌝ }
     ensures { λ n. ⌜ n ≤ mostValues + 1 ⌝ }
 {
     let first = values_start(words, l, t);
@@ -65,10 +60,9 @@ fn validate_input_object(
     cycle: u32,
     out: &mut [u32],
 ) -> usize
-    requires { ⌜ Readable (now text) (now words) l ⌝ }
+    requires { ⌜ Legible (now text) (now words) l (now order) ⌝ }
     requires { ⌜ t .0 < l .types ⌝ }
-    requires { ⌜ Helps (now words) (l .types) (now order) ⌝ }
-    ensures { λ n. ⌜ Emitted (inputObjectRecords (now (text .entry)) (now (words .entry)) (t .0) cycle (fieldsStart (now (words .entry)) (t .0)) (fieldsOf (now (words .entry)) (t .0))) (now (out .entry)) (now (out .exit)) n ⌝ }
+    ensures { λ n. ⌜ Emitted (ofInputObject (now (text .entry)) (now (words .entry)) cycle (t .0)) (now (out .entry)) (now (out .exit)) n ⌝ }
     ensures { λ n. ⌜ n ≤ 2 * mostFields + 2 ⌝ }
 {
     let first = fields_start(words, l, t);
@@ -95,9 +89,8 @@ fn validate_kind(
     cycle: u32,
     out: &mut [u32],
 ) -> usize
-    requires { ⌜ Readable (now text) (now words) l ⌝ }
+    requires { ⌜ Legible (now text) (now words) l (now order) ⌝ }
     requires { ⌜ t .0 < l .types ⌝ }
-    requires { ⌜ Helps (now words) (l .types) (now order) ⌝ }
     ensures { λ n. ⌜ Emitted (kindRecords (now (text .entry)) (now (words .entry)) cycle (t .0)) (now (out .entry)) (now (out .exit)) n ⌝ }
     ensures { λ n. ⌜ n ≤ mostOfKind ⌝ }
 {
@@ -121,10 +114,9 @@ fn validate_type(
     cycle: u32,
     out: &mut [u32],
 ) -> usize
-    requires { ⌜ Readable (now text) (now words) l ⌝ }
+    requires { ⌜ Legible (now text) (now words) l (now order) ⌝ }
     requires { ⌜ t .0 < l .types ⌝ }
-    requires { ⌜ Helps (now words) (l .types) (now order) ⌝ }
-    ensures { λ n. ⌜ Emitted (typeRecords (now (text .entry)) (now (words .entry)) (λ u. cycle) (t .0)) (now (out .entry)) (now (out .exit)) n ⌝ }
+    ensures { λ n. ⌜ Emitted (typeList (now (text .entry)) (now (words .entry)) cycle (t .0)) (now (out .entry)) (now (out .exit)) n ⌝ }
     ensures { λ n. ⌜ n ≤ mostOfType ⌝ }
 {
     let n = validate_type_system_name(
@@ -132,6 +124,7 @@ fn validate_type(
         words,
         l,
         t,
+        type_flag(words, l, t),
         type_name(words, l, t),
         Place::TYPE_NAME,
         t.0,
@@ -150,10 +143,9 @@ fn validate_types(
     cycles: &[u32],
     out: &mut [u32],
 ) -> usize
-    requires { ⌜ Readable (now text) (now words) l ⌝ }
+    requires { ⌜ Legible (now text) (now words) l (now order) ⌝ }
     requires { ⌜ l .types ≤ length (now cycles) ⌝ }
-    requires { ⌜ Helps (now words) (l .types) (now order) ⌝ }
-    ensures { λ n. ⌜ Emitted (each (typeRecords (now (text .entry)) (now (words .entry)) (λ u. getD (now (cycles .entry)) u 0)) (l .types)) (now (out .entry)) (now (out .exit)) n ⌝ }
+    ensures { λ n. ⌜ Emitted (typesRecords (now (text .entry)) (now (words .entry)) (countsOf (now (cycles .entry)))) (now (out .entry)) (now (out .exit)) n ⌝ }
     ensures { λ n. ⌜ n ≤ mostOfType * mostTypes ⌝ }
 {
     let types = l.types;
@@ -184,10 +176,9 @@ pub fn validate_schema(
     cycles: &[u32],
     out: &mut [u32],
 ) -> usize
-    requires { ⌜ Readable (now text) (now words) l ⌝ }
+    requires { ⌜ Legible (now text) (now words) l (now order) ⌝ }
     requires { ⌜ l .types ≤ length (now cycles) ⌝ }
-    requires { ⌜ Helps (now words) (l .types) (now order) ⌝ }
-    ensures { λ n. ⌜ Emitted (listOf (now (text .entry)) (now (words .entry)) (λ u. getD (now (cycles .entry)) u 0)) (now (out .entry)) (now (out .exit)) n ⌝ }
+    ensures { λ n. ⌜ Emitted (listOf (now (text .entry)) (now (words .entry)) (countsOf (now (cycles .entry)))) (now (out .entry)) (now (out .exit)) n ⌝ }
     ensures { λ n. ⌜ n ≤ mostRecords ⌝ }
 {
     let n = validate_schema_definition(words, l, order, out);

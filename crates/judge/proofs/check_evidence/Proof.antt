@@ -7,7 +7,7 @@ use Prim.Native.Nat.{ℕ, _≤_, _<_, _-_}
 use Rattle.chains.specs.Fields.{isInputObject, chainGraph}
 use Rattle.evidence.specs.Rules.{lowest}
 use Rattle.evidence.proofs.ChainLaws.{chained}
-use Rattle.evidence.proofs.Verdicts.{passes-judged, broken-judged}
+use Rattle.evidence.proofs.JudgedLaws.{passes-judged, broken-judged}
 use Rattle.judge.proofs.check_evidence.Statement.{statement}
 use Rattle.judge.proofs.check_evidence.Tie as tie
 
@@ -23,7 +23,7 @@ loop-holds c = (search needs, λ s l. absurd (omega arith))
 lowest-requires : tie.Need-lowest-requires Inv-loop μ-loop
 lowest-requires c κs =
     let pre = c .before .before .before .before .before .pre in
-    (chained (pre), c .if1 .taken)
+    (pre, c .if1 .taken)
 
 returns : tie.Need-returns Inv-loop μ-loop
 returns c =

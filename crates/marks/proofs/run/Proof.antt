@@ -2,8 +2,8 @@
 use borrow.Author.Needs.{needs}
 use native.Mathlib.Omega.{arith}
 use mathlib.Core.Path.{sym, subst}
-use Rattle.table.specs.Sound.{Sound}
-use Rattle.table.proofs.AnswerLaws.{verdict-sound}
+use Rattle.wellformed.specs.Sound.{Sound}
+use Rattle.wellformed.proofs.AnswerLaws.{verdict-sound}
 use Rattle.rows.specs.Readable.{SoundRows}
 use Rattle.rows.proofs.ReadableLaws.{sound-rows}
 use Rattle.order.proofs.OrderLaws.{sound-apart}
@@ -29,18 +29,26 @@ mul-need c = let s = rows (c .before) .laid in search needs
 
 make-evidence-requires : tie.Need-make-evidence-requires
 make-evidence-requires c κs =
-    let r = rows (c .before .before .before .before .before) in
+    let laid = c .before .before .before .before .before in
+    let told = laid .before in
+    let r = rows laid in
     let e = chained r .types in
-    (r, (record { work-room = omega arith; out-room = omega arith }, sound-apart (sound (c .before .before .before .before .before .before))))
+    (r, (record { work-room = omega arith; out-room = omega arith }, sound-apart (sound told)))
 
 count-marked-requires : tie.Need-count-marked-requires
-count-marked-requires c κs = rows (c .before .before .before .before .before .before .before .before .before .before .before) .laid .types-most
+count-marked-requires c κs =
+    let laid = c .before .before .before .before .before .before .before .before .before .before .before in
+    rows laid .laid .types-most
 
 check-evidence-requires : tie.Need-check-evidence-requires
-check-evidence-requires c κs = rows (c .before .before .before .before .before .before .before .before .before .before .before .before .before .before)
+check-evidence-requires c κs =
+    let laid = c .before .before .before .before .before .before .before .before .before .before .before .before .before .before in
+    rows laid
 
 check-evidence-requires-2 : tie.Need-check-evidence-requires-2
-check-evidence-requires-2 c κs = rows (c .before .before .before .before .before .before .before .before .before .before .before .before .before .before .before .before .before .before .before .before .before .before)
+check-evidence-requires-2 c κs =
+    let laid = c .before .before .before .before .before .before .before .before .before .before .before .before .before .before .before .before .before .before .before .before .before .before in
+    rows laid
 
 pub run-spec : {M : Type 1} → statement M
 run-spec =

@@ -2,12 +2,12 @@
 use borrow.Author.Needs.{needs}
 use mathlib.Core.Path.{_≡_, sym, subst}
 use mathlib.Core.List.{List, [], _++_, append-nil}
-use Prim.Native.Nat.{ℕ, _*_}
+use Prim.Native.Nat.{ℕ}
 use native.Mathlib.Omega.{arith}
 use lib.ListN.{take, replicate, length-take, length-replicate}
 use lib.Seq.{take-at, length-take-le}
-use Rattle.table.specs.Sound.{Sound}
-use Rattle.table.proofs.AnswerLaws.{verdict-sound}
+use Rattle.wellformed.specs.Sound.{Sound}
+use Rattle.wellformed.proofs.AnswerLaws.{verdict-sound}
 use Rattle.rows.specs.Readable.{SoundRows}
 use Rattle.rows.proofs.PartLaws.{type-count}
 use Rattle.rows.proofs.ReadableLaws.{sound-rows}
@@ -29,8 +29,8 @@ rows c = subst (SoundRows _) (sym (c .layout-of .ensures .0)) (sound-rows (sound
 layout-of-requires : tie.Need-layout-of-requires
 layout-of-requires c κs = let s = sound c .laid in omega arith
 
-mul-marks : tie.Need-mul-marks
-mul-marks c = let s = rows (c .before) .laid in search needs
+order-at-requires : tie.Need-order-at-requires
+order-at-requires c κs = rows c .laid .types-most
 
 -- the words that are lent are those that were cleared
 zeros : (m : ℕ) (W rest : List ℕ) → W ≡ replicate m 0 ++ rest → take m W ≡ replicate m 0 ++ []
@@ -42,11 +42,11 @@ slice-aggregate-first-cycle c = sym (length-take-le _ _ (search needs))
 first-cycle-requires : tie.Need-first-cycle-requires
 first-cycle-requires c κs =
     let b = c .before .before .before .before in
-    let e : tie.After-layout-of = b .before .before .before .before .before .before .before in
-    let m : ℕ = 2 * e .layout-of .result .types in
-    let r = rows e in
+    let a : tie.After-order-at = b .before .before .before .before .before .before in
+    let m : ℕ = a .order-at .result in
+    let r = rows (a .before) in
     let z = zeros m _ _ (b .clear .ensures) in
-    (r, (search needs, (rw z (cleared-settled _ m [] (omega (arith, type-count _ _ (r .laid)))), helped-none _ _ _ (rw z (simp (append-nil, length-replicate))))))
+    (helped-none r _ (rw z (simp (append-nil, length-replicate) (a .order-at .ensures))), (search needs, rw z (cleared-settled _ m [] (omega (arith, a .order-at .ensures, type-count _ _ (r .laid))))))
 
 slice-aggregate-in-order : tie.Need-slice-aggregate-in-order
 slice-aggregate-in-order c = let h = c .before .if3 .taken in simp length-take (omega arith)
@@ -63,7 +63,7 @@ search-spec =
     (λ c κs. search needs)  -- write-all-requires-2
     (λ c. search needs)  -- returns
     layout-of-requires
-    mul-marks
+    order-at-requires
     (λ c κs. search needs)  -- wide-requires
     (λ c. search needs)  -- slice-aggregate-write-all-2
     (λ c κs. search needs)  -- write-all-requires-3

@@ -1,56 +1,46 @@
--- `write_scalars`: the types are written one by one, and every place fits.
+-- One section behind the other.
 use borrow.Author.Needs.{needs}
-use mathlib.Core.Path.{_≡_}
-use Prim.Native.Nat.{_≤_, _-_}
-use lib.ListN.{length}
+use Rattle.building.proofs.BuildingLaws.{added-seq}
 use Rattle.boards.proofs.tables.write_scalars.Statement.{statement}
 use Rattle.boards.proofs.tables.write_scalars.Tie as tie
 
-abbrev Inv-loop : tie.InvT-loop
-Inv-loop text₀ words₀ types i₀ t5 text words i = (i ≤ types) × ((length text ≡ length text₀) × (length words ≡ length words₀))
+cast-t7 : tie.Need-cast-t7
+cast-t7 c = search needs
 
-abbrev μ-loop : tie.MeasureT-loop
-μ-loop text₀ words₀ types i₀ t5 text words i = types - i
+cast-t8 : tie.Need-cast-t8
+cast-t8 c = search needs
+
+header-requires : tie.Need-header-requires
+header-requires c κs = search needs
+
+write-names-requires : tie.Need-write-names-requires
+write-names-requires c κs = search needs
+
+write-types-requires : tie.Need-write-types-requires
+write-types-requires c κs = search needs
+
+no-roots-requires : tie.Need-no-roots-requires
+no-roots-requires c κs = search needs
+
+same-length : tie.Need-same-length
+same-length c = search needs
+
+returns : tie.Need-returns
+returns c =
+    let at-write-types = c .before .before .before .before .before .before in
+    let at-write-names = at-write-types .before .before .before .before in
+    let at-header = at-write-names .before .before .before .before in
+    added-seq (added-seq (added-seq (at-header .header .ensures) (at-write-names .write-names .ensures)) (at-write-types .write-types .ensures)) (c .before .before .no-roots .ensures)
 
 pub write-scalars-spec : {M : Type 1} → statement M
 write-scalars-spec =
     tie.close
     (tie.spec
-    Inv-loop
-    μ-loop
-    (λ c. search needs)  -- cast-store
-    (λ c κs. search needs)  -- store-requires
-    (λ c. search needs)  -- cast-store-2
-    (λ c κs. search needs)  -- store-requires-2
-    (λ c. search needs)  -- loop-holds
-    (λ c. search needs)  -- mul-store-byte
-    (λ c κs. search needs)  -- letter-requires
-    (λ c κs. search needs)  -- store-byte-requires
-    (λ c. search needs)  -- mul-store-byte-2
-    (λ c. search needs)  -- add-store-byte
-    (λ c κs. search needs)  -- letter-requires-2
-    (λ c κs. search needs)  -- store-byte-requires-2
-    (λ c. search needs)  -- mul-store
-    (λ c. search needs)  -- add-store
-    (λ c. search needs)  -- mul-store-2
-    (λ c. search needs)  -- cast-store-3
-    (λ c κs. search needs)  -- store-requires-3
-    (λ c. search needs)  -- mul-store-3
-    (λ c. search needs)  -- add-store-2
-    (λ c κs. search needs)  -- store-requires-4
-    (λ c. search needs)  -- mul-store-4
-    (λ c. search needs)  -- add-store-3
-    (λ c. search needs)  -- mul-store-5
-    (λ c. search needs)  -- add-store-4
-    (λ c. search needs)  -- cast-store-4
-    (λ c κs. search needs)  -- store-requires-5
-    (λ c. search needs)  -- add-i
-    (λ c. search needs)  -- loop-less
-    (λ c. search needs)  -- loop-again
-    (λ c. search needs)  -- mul-put
-    (λ c. search needs)  -- add-put
-    (λ c. search needs)  -- slice-aggregate-put
-    (λ c κs. search needs)  -- put-requires
-    (λ c. search needs)  -- same-length
-    (λ c. search needs)  -- same-length-2
-    (λ c. search needs))  -- returns
+    cast-t7
+    cast-t8
+    header-requires
+    write-names-requires
+    write-types-requires
+    no-roots-requires
+    same-length
+    returns)

@@ -13,7 +13,11 @@ use Rattle.chains.proofs.cycle.first_cycle.Statement.{statement}
 use Rattle.chains.proofs.cycle.first_cycle.Tie as tie
 
 types : (e : tie.Start) → e .args .l .types ≡ typeCount (e .args .words .now)
-types e = type-count _ _ (e .pre .0 .laid)
+types e = type-count _ _ (e .pre .0 .indexed .rows .laid)
+
+-- at the test of the mark: the function's entry
+abbrev entered : tie.After-struct-known2 → tie.Start
+entered c = c .before .before .before .before .before .before
 
 cast-row : tie.Need-cast-row
 cast-row c = search needs
@@ -26,8 +30,8 @@ slice-read-if1 c = search needs
 
 returns : tie.Need-returns
 returns c =
-    let e = c .before .before .before .before .before .before in
-    (settled-answer _ _ _ (e .pre .1 .1 .0) (omega (arith, types e, e .pre .1 .0)) (c .if1 .taken) _, (omega arith, refl))
+    let e = entered (c .before) in
+    (settled-answer _ _ _ (e .pre .1 .1) (omega (arith, types e, e .pre .1 .0)) (c .if1 .taken) _, (omega arith, refl))
 
 mul-work : tie.Need-mul-work
 mul-work c = search needs
@@ -37,12 +41,12 @@ slice-write-work c = search needs
 
 walk-type-requires : tie.Need-walk-type-requires
 walk-type-requires c κs =
-    let e = c .before .before .before .before .before .before .before .before in
-    (e .pre .0 .laid, (top-ready _ _ _ _ (types e) (e .pre .1 .0) (e .pre .1 .1 .0) (c .before .before .if1 .left) _ (shaped _ _ (e .pre .0)), helped-mark (e .pre .1 .1 .1) _ _ (omega (arith, e .pre .1 .0))))
+    let e = entered (c .before .before .before) in
+    (helped-mark (e .pre .0) _ _ (omega (arith, e .pre .1 .0)), top-ready _ _ _ _ (types e) (e .pre .1 .0) (e .pre .1 .1) (c .before .before .if1 .left) _ (shaped _ _ (e .pre .0 .indexed .rows)))
 
 -- after the walk: the function's entry, and what the walk returned and left
 abbrev entry : tie.After-walk-type → tie.Start
-entry c = c .before .before .before .before .before .before .before .before .before
+entry c = entered (c .before .before .before .before)
 
 fresh : (c : tie.After-walk-type) → getD (entry c .args .work .now) (entry c .args .t .0) 0 ≡ 0
 fresh c = c .before .before .before .if1 .left
@@ -51,22 +55,25 @@ size : (c : tie.After-walk-type) → length (c .walk-type .last .1 .1 .1 .1 .1 .
 size c = c .walk-type .kept .1 .1 .1 .1 .1 .0 ∙ length-set (entry c .args .work .now) (entry c .args .t .0) 1
 
 forget-requires : tie.Need-forget-requires
-forget-requires c κs = let d : tie.After-walk-type = c .before .before .before .before .before in omega (arith, size d, entry d .pre .1 .1 .1 .room)
+forget-requires c κs = let d : tie.After-walk-type = c .before .before .before .before .before in omega (arith, size d, entry d .pre .0 .room)
+
+abbrev walked : tie.After-slice-known6 → tie.After-walk-type
+walked c = c .before .before .before .before .before .before .before .before
 
 same-length : tie.Need-same-length
-same-length c = c .before .before .forget .kept .0 ∙ size (c .before .before .before .before .before .before .before .before)
+same-length c = c .before .before .forget .kept .0 ∙ size (walked c)
 
 same-length-2 : tie.Need-same-length-2
 same-length-2 c = search needs
 
 returns-2 : tie.Need-returns-2
 returns-2 c =
-    let d : tie.After-walk-type = c .before .before .before .before .before .before .before .before in
+    let d = walked c in
     let e = entry d in (
-      top-answer _ _ _ _ (types e) (e .pre .1 .0) (e .pre .1 .1 .0) (fresh d) _ _ _ _ (d .walk-type .ensures),
+      top-answer _ _ _ _ (types e) (e .pre .1 .0) (e .pre .1 .1) (fresh d) _ _ _ _ (d .walk-type .ensures),
       (
-        top-most _ _ _ _ (types e) (e .pre .1 .0) (e .pre .1 .1 .0) (fresh d) _ _ _ _ (d .walk-type .ensures),
-        top-same _ _ _ _ (types e) (e .pre .1 .0) (e .pre .1 .1 .0) (fresh d) _ _ _ _ _ (d .walk-type .ensures) (c .before .before .forget .ensures),
+        top-most _ _ _ _ (types e) (e .pre .1 .0) (e .pre .1 .1) (fresh d) _ _ _ _ (d .walk-type .ensures),
+        top-same _ _ _ _ (types e) (e .pre .1 .0) (e .pre .1 .1) (fresh d) _ _ _ _ _ (d .walk-type .ensures) (c .before .before .forget .ensures),
       ),
     )
 

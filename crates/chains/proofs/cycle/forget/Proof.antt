@@ -39,8 +39,8 @@ loop-less c = search needs
 
 loop-again : tie.Need-loop-again Inv-loop μ-loop
 loop-again c =
-    let i = c .before .before .before .loop .inv in
-    let lt = c .before .before .loop-test .taken in (
+    let i = c .before .before .before .before .loop .inv in
+    let lt = c .before .before .before .loop-test .taken in (
       omega arith,
       ⊎-elim (λ w. rw (w .1, length-set) (i .1)) (λ w. rw (w .1) (i .1)) (c .if1 .came),
       ⊎-elim

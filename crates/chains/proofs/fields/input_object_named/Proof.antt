@@ -1,31 +1,50 @@
 -- `input_object_named`: the tests of the code are those of the definition, of a name that is no type's, of an input object, of another type.
 use borrow.Author.Needs.{needs}
 use native.Mathlib.Omega.{arith}
-use mathlib.Core.Path.{sym, _∙_}
-use Rattle.rows.proofs.FoundTypes.{named, unnamed}
+use mathlib.Core.Path.{_≡_, sym, _∙_}
+use Rattle.table.specs.Layout.{typeCount}
+use Rattle.rows.specs.Types.{typeNamed}
+use Rattle.rows.proofs.FoundTypes.{Named, named, unnamed, found-at, found-nothing}
 use Rattle.rows.proofs.PartLaws.{type-count}
 use Rattle.chains.specs.Fields.{inputObjectNamed}
 use Rattle.chains.proofs.fields.input_object_named.Statement.{statement}
 use Rattle.chains.proofs.fields.input_object_named.Tie as tie
 
+-- where the lookup has found a type: the function's entry, and what the lookup says
+abbrev entry : tie.After-u → tie.Start
+entry c = c .before .before .before .before .before
+
+there : (c : tie.After-u) → Named (entry c .args .words .now) (entry c .args .l) (entry c .args .name .0) (c .u .given .0 .0)
+there c = named _ _ (entry c .pre .rows .laid) _ _ (c .before .before .look-up .ensures) _ (c .u .given .1)
+
 returns : tie.Need-returns
 unfolding inputObjectNamed
-returns c = (simp (unnamed _ _ (c .before .before .before .before .before .pre .0) _ _ (c .before .before .look-up .ensures) (c .enum-told .given .1), type-count _ _ (c .before .before .before .before .before .pre .0)), omega arith)
+returns c =
+    let laid = c .before .before .before .before .before .pre .rows .laid in
+    let none = unnamed _ _ laid _ _ (c .before .before .look-up .ensures) (c .enum-told .given .1) in
+    let k : inputObjectNamed (c .before .before .before .before .before .args .words .now) (c .before .before .before .before .before .args .name .0) ≡ typeCount (c .before .before .before .before .before .args .words .now) = simp none in
+    sym (found-nothing _ _ (omega (arith, k, type-count _ _ laid)))
 
 is-input-object-requires : tie.Need-is-input-object-requires
-is-input-object-requires c κs = (c .before .before .before .before .before .before .pre .0, named _ _ (c .before .before .before .before .before .before .pre .0) _ _ (c .before .before .before .look-up .ensures) _ (c .before .u .given .1) .below)
+is-input-object-requires c κs = let d : tie.After-u = c .before in (entry d .pre .rows .laid, there d .below)
 
 returns-2 : tie.Need-returns-2
 unfolding inputObjectNamed
 returns-2 c =
-    let m = named _ _ (c .before .before .before .before .before .before .before .before .before .pre .0) _ _ (c .before .before .before .before .before .before .look-up .ensures) _ (c .before .before .before .before .u .given .1) in
-    (simp (m .there, ← m .row, sym (c .before .before .is-input-object .ensures) ∙ c .before .if1 .taken), omega (arith, m .below))
+    let d : tie.After-u = c .before .before .before in
+    let e = entry d in
+    let m = there d in
+    let k : inputObjectNamed (e .args .words .now) (e .args .name .0) ≡ typeNamed (e .args .words .now) (e .args .name .0) = simp (m .there, ← m .row, sym (c .before .is-input-object .ensures) ∙ c .if1 .taken) in
+    rw (k, ← m .row) (sym (found-at _ _ (m .below)))
 
 returns-3 : tie.Need-returns-3
 unfolding inputObjectNamed
 returns-3 c =
-    let m = named _ _ (c .before .before .before .before .before .before .before .before .pre .0) _ _ (c .before .before .before .before .before .look-up .ensures) _ (c .before .before .before .u .given .1) in
-    (simp (m .there, ← m .row, sym (c .before .is-input-object .ensures) ∙ c .if1 .left, type-count _ _ (c .before .before .before .before .before .before .before .before .pre .0)), omega arith)
+    let d : tie.After-u = c .before .before .before in
+    let e = entry d in
+    let m = there d in
+    let k : inputObjectNamed (e .args .words .now) (e .args .name .0) ≡ typeCount (e .args .words .now) = simp (m .there, ← m .row, sym (c .before .is-input-object .ensures) ∙ c .if1 .left) in
+    sym (found-nothing _ _ (omega (arith, k, type-count _ _ (e .pre .rows .laid))))
 
 pub input-object-named-spec : {M : Type 1} → statement M
 input-object-named-spec =
@@ -36,6 +55,5 @@ input-object-named-spec =
     (λ c. search needs)  -- enum-told
     returns
     is-input-object-requires
-    (λ c. search needs)  -- cast-result
     returns-2
     returns-3)

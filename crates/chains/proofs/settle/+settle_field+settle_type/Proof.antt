@@ -4,15 +4,19 @@ use borrow.Author.Needs.{needs}
 use borrow.Author.Tests.{eqb-true}
 use borrow.Fn.Kinds.{In}
 use borrow.Fn.PlainCycle.{Measures, is, falls, and}
-use mathlib.Core.Path.{_≡_, sym}
+use mathlib.Core.Path.{_≡_, sym, subst, _∙_}
 use mathlib.Core.Bool.{true}
+use mathlib.Core.List.{List}
 use mathlib.Core.Logic.{⊎-elim}
 use Prim.Native.Nat.{ℕ, _<_, _+_, _*_, _-_}
 use native.Mathlib.Omega.{arith}
+use lib.ListN.{length}
 use Rattle.table.specs.Layout.{typeCount}
+use Rattle.rows.proofs.FoundTypes.{at-below, at-row, nothing-none}
 use Rattle.rows.proofs.PartLaws.{type-count}
-use Rattle.chains.specs.Fields.{chainGraph}
+use Rattle.chains.specs.Fields.{chainTarget, chainGraph}
 use Rattle.chains.specs.Search.{free}
+use Rattle.chains.specs.Answer.{Marking}
 use Rattle.chains.specs.Settle.{Settling}
 use Rattle.chains.proofs.Marks.{free-falls}
 use Rattle.chains.proofs.HelpLaws.{helped-mark, helped-rest}
@@ -66,59 +70,77 @@ module _ (m : ℕ) where
   abbrev Field : Type 0
   Field = settle-field-lts.Start (field-calls m) (settle-field-at m) settle-field.Post
 
+  abbrev Target : Type 0
+  Target = settle-field-lts.After-target-by (field-calls m) (settle-field-at m) settle-field.Post
+
   abbrev Led : Type 0
-  Led = settle-field-lts.After-target-by (field-calls m) (settle-field-at m) settle-field.Post
+  Led = settle-field-lts.After-u (field-calls m) (settle-field-at m) settle-field.Post
+
+  abbrev asked : Target → Field
+  asked c = c .before .before .before .before
 
   abbrev field : Led → Field
-  field c = c .before .before .before .before
+  field c = asked (c .before .before)
+
+  abbrev marking : (e : Field) → Marking (chainGraph (e .args .words .now)) (e .args .work .now)
+  marking e = e .pre .1 .1 .1
 
   count : (e : Field) → e .args .l .types ≡ typeCount (e .args .words .now)
-  count e = type-count _ _ (e .pre .1 .0 .laid)
+  count e = type-count _ _ (e .pre .1 .0 .indexed .rows .laid)
 
   settle-field-returns : settle-field-lts.Need-returns (field-calls m) (settle-field-at m) settle-field.Post
   settle-field-returns c =
-      let d : Led = c .before .before in
-      let e = field d in
-      (settling-none _ _ (e .pre .1 .1 .1 .0), λ _ h. absurd (omega (arith, h, c .if1 .taken, count e, d .target-by .ensures .0)))
+      let d : Target = c .before .before in
+      let e = asked d in
+      (settling-none _ _ (marking e), λ _ h. absurd (omega (arith, h, nothing-none _ _ (sym (d .target-by .ensures) ∙ c .enum-told .given .1), count e)))
+
+  -- the type that f leads to
+  abbrev u : Led → ℕ
+  u c = c .u .given .0 .0 .0
+
+  leads : (c : Led) → u c ≡ chainTarget (field c .args .words .now) (field c .args .f)
+  leads c = at-row _ _ _ (sym (c .before .before .target-by .ensures) ∙ c .u .given .1)
+
+  below : (c : Led) → u c < typeCount (field c .args .words .now)
+  below c = omega (arith, leads c, at-below _ _ _ (sym (c .before .before .target-by .ensures) ∙ c .u .given .1), count (field c))
+
+  within : (c : Led) → u c < length (field c .args .work .now)
+  within c = omega (arith, below c, marking (field c) .room)
 
   settle-type-requires : settle-field-lts.Need-settle-type-requires (field-calls m) (settle-field-at m) settle-field.Post
   settle-type-requires c κs =
-      let d : Led = c .before .before .before .before .before in
+      let d : Led = c .before .before .before .before .before .before in
       let e = field d in
-      let low : d .target-by .result < typeCount (e .args .words .now) = omega (arith, c .before .before .before .if1 .left, count e) in
-      let fresh = c .before .if2 .taken in
-      let falls = free-falls (typeCount (e .args .words .now)) (e .args .work .now) (d .target-by .result) low (omega (arith, low, e .pre .1 .1 .1 .0 .room)) fresh in (
+      let fresh = c .before .if1 .taken in
+      let falls = free-falls (typeCount (e .args .words .now)) (e .args .work .now) (u d) (below d) (within d) fresh in (
         omega (arith, falls, e .pre .0),
         (
-          e .pre .1 .0,
-          (
-            omega (arith, low, count e),
-            (settling-enter _ _ (e .pre .1 .1 .1 .0) _ low fresh .marking, helped-mark (e .pre .1 .1 .1 .1) _ _ (omega (arith, low, count e))),
-          ),
+          helped-mark (e .pre .1 .0) _ _ (omega (arith, below d, count e)),
+          (omega (arith, below d, count e), settling-enter _ _ (marking e) _ (below d) fresh .marking),
         ),
       )
 
   -- after the type was entered, or not
   abbrev Tried : Type 0
-  Tried = settle-field-lts.Joined2 (field-calls m) (settle-field-at m) settle-field.Post
+  Tried = settle-field-lts.Joined1 (field-calls m) (settle-field-at m) settle-field.Post
 
-  abbrev tried : Tried → Field
-  tried c = field (c .before .before .before .before)
+  abbrev tried : Tried → Led
+  tried c = c .before .before .before .before .before
 
-  settled-there : (c : Tried) → Settling (chainGraph (tried c .args .words .now)) (tried c .args .work .now) (c .if2 .work)
+  settled-there : (c : Tried) → Settling (chainGraph (field (tried c) .args .words .now)) (field (tried c) .args .work .now) (c .if1 .work)
   settled-there c =
-      let d : Led = c .before .before .before .before in
+      let d = tried c in
       let e = field d in
-      let low : d .target-by .result < typeCount (e .args .words .now) = omega (arith, c .before .before .if1 .left, count e) in
+      let P : List ℕ → Type 0 = Settling (chainGraph (e .args .words .now)) (e .args .work .now) in
       ⊎-elim
-      (λ w. rw (w .5) (settling-join _ (settling-enter _ _ (e .pre .1 .1 .1 .0) _ low (w .0 .taken)) (w .2 .ensures)))
-      (λ w. rw (w .1) (settling-none _ _ (e .pre .1 .1 .1 .0)))
-      (c .if2 .came)
+      (λ w. subst P (sym (w .5)) (settling-join _ (settling-enter _ _ (marking e) _ (below d) (w .0 .taken)) (w .2 .ensures)))
+      (λ w. subst P (sym (w .1)) (settling-none _ _ (marking e)))
+      (c .if1 .came)
 
   settle-field-returns-2 : settle-field-lts.Need-returns-2 (field-calls m) (settle-field-at m) settle-field.Post
   settle-field-returns-2 c =
-      let d : Led = c .before .before .before .before .before in
-      (settled-there (c .before), λ e _. rw (← d .target-by .ensures .0) (eqb-true _ _ e))
+      let d : Tried = c .before .before in
+      (settled-there d, λ e _. rw (← leads (tried d)) (eqb-true _ _ e))
 
   -- `settle_type`: its entry, and the loop's head
   abbrev Entry : Type 0
@@ -131,13 +153,13 @@ module _ (m : ℕ) where
   entry b = b .before .before .before .before .before
 
   same-count : (b : Head) → typeCount (entry b .args .words .now) ≡ entry b .args .l .types
-  same-count b = sym (type-count _ _ (entry b .pre .1 .0 .laid))
+  same-count b = sym (type-count _ _ (entry b .pre .1 .0 .indexed .rows .laid))
 
   -- in a turn f is a row
   row : (b : Head) → b .loop .f < b .before .before .chains-end .result → b .loop .f < entry b .args .l .fields
   row b lt =
       let e = entry b in
-      omega (arith, lt, b .before .before .chains-end .ensures, shaped _ _ (e .pre .1 .0) .within (e .args .s .0) (omega (arith, e .pre .1 .1 .0, same-count b)))
+      omega (arith, lt, b .before .before .chains-end .ensures, shaped _ _ (e .pre .1 .0 .indexed .rows) .within (e .args .s .0) (omega (arith, e .pre .1 .1 .0, same-count b)))
 
   settle-field-requires : settle-type-lts.Need-settle-field-requires (type-calls m) (settle-type-at m) settle-type.Post Inv-loop μ-loop
   settle-field-requires c κs =
@@ -146,11 +168,8 @@ module _ (m : ℕ) where
       let i = b .loop .inv .0 in (
         omega (arith, settling-free _ i, e .pre .0),
         (
-          e .pre .1 .0,
-          (
-            row b (c .before .loop-test .taken),
-            (i .marking, helped-rest (e .pre .1 .1 .1 .1) _ _ (same-count b) (i .size) (i .rest)),
-          ),
+          helped-rest (e .pre .1 .0) _ _ (same-count b) (i .size) (i .rest),
+          (row b (c .before .loop-test .taken), i .marking),
         ),
       )
 
@@ -181,18 +200,20 @@ pub +settle-field+settle-type-spec : {M : Type 1} → statement M
     (field-calls m)
     (settle-field-at m)
     settle-field.Post
-    (λ c κs. let e = c .before .before .before .pre .1 in (e .0 .laid, (e .1 .0, e .1 .1 .1)))  -- target-by-requires
+    (λ c κs. let e = c .before .before .before .pre .1 in (e .0, e .1 .0))  -- target-by-requires
+    (λ c. search needs)  -- enum-known-u
+    (λ c. search needs)  -- enum-told
     (λ c. search needs)  -- same-length
     (settle-field-returns m)
-    (λ c. search needs)  -- mul-if2
-    (λ c. search needs)  -- slice-read-if2
+    (λ c. search needs)  -- cast-row
+    (λ c. search needs)  -- mul-if1
+    (λ c. within m (c .before .before .before))  -- slice-read-if1
     (λ c. search needs)  -- mul-work
-    (λ c. search needs)  -- slice-write-work
-    (λ c. search needs)  -- cast-t15
+    (λ c. within m (c .before .before .before .before .before))  -- slice-write-work
     (settle-type-requires m)
     (λ c. search needs)  -- mul-result
-    (λ c. let e = tried m (c .before) in omega (arith, c .before .before .before .if1 .left, settled-there m (c .before) .size, e .pre .1 .1 .1 .1 .room))  -- slice-read-result
-    (λ c. settled-there m (c .before) .size)  -- same-length-2
+    (λ c. omega (arith, within m (tried m (c .before)), settled-there m (c .before) .size))  -- slice-read-result
+    (λ c. settled-there m (c .before .before) .size)  -- same-length-2
     (settle-field-returns-2 m))
     (λ m.
     settle-type-lts.spec
@@ -201,11 +222,11 @@ pub +settle-field+settle-type-spec : {M : Type 1} → statement M
     settle-type.Post
     Inv-loop
     μ-loop
-    (λ c κs. let e = c .before .before .pre .1 in (e .0 .laid, e .1 .0))  -- chains-end-requires
-    (λ c κs. let e = c .before .before .before .pre .1 in (e .0 .laid, e .1 .0))  -- fields-start-requires
-    (λ c. (settling-none _ _ (c .before .before .before .before .pre .1 .1 .1 .0), λ _ h u l r. absurd (omega (arith, l, r .low, c .fields-start .ensures))))  -- loop-holds
+    (λ c κs. let e = c .before .before .pre .1 in (e .0 .indexed .rows .laid, e .1 .0))  -- chains-end-requires
+    (λ c κs. let e = c .before .before .before .pre .1 in (e .0 .indexed .rows .laid, e .1 .0))  -- fields-start-requires
+    (λ c. (settling-none _ _ (c .before .before .before .before .pre .1 .1 .1), λ _ h u l r. absurd (omega (arith, l, r .low, c .fields-start .ensures))))  -- loop-holds
     (settle-field-requires m)
-    (λ c. let b = c .before .before .before .before .before in omega (arith, row m b (c .before .before .before .before .loop-test .taken), entry m b .pre .1 .0 .laid .fields-most))  -- add-f
+    (λ c. let b = c .before .before .before .before .before in omega (arith, row m b (c .before .before .before .before .loop-test .taken), entry m b .pre .1 .0 .indexed .rows .laid .fields-most))  -- add-f
     (λ c. search needs)  -- loop-less
     (loop-again m)
     (λ c. search needs)  -- cast-work

@@ -20,10 +20,10 @@ abbrev μ-loop : tie.MeasureT-loop
 μ-loop words l work₀ types t₀ work t = types - t
 
 types : (e : tie.Start Inv-loop μ-loop) → e .args .l .types ≡ typeCount (e .args .words .now)
-types e = type-count _ _ (e .pre .0 .laid)
+types e = type-count _ _ (e .pre .0 .indexed .rows .laid)
 
 loop-holds : tie.Need-loop-holds Inv-loop μ-loop
-loop-holds c = let e = c .before .before in (types e, settling-none _ _ (e .pre .1 .0 .marking))
+loop-holds c = let e = c .before .before in (types e, settling-none _ _ (e .pre .1 .marking))
 
 mul-if1 : tie.Need-mul-if1 Inv-loop μ-loop
 mul-if1 c = search needs
@@ -35,25 +35,19 @@ mul-work : tie.Need-mul-work Inv-loop μ-loop
 mul-work c = search needs
 
 slice-write-work : tie.Need-slice-write-work Inv-loop μ-loop
-slice-write-work c = let i = c .before .before .before .loop .inv in omega (arith, c .before .before .loop-test .taken, i .0, i .1 .marking .room)
+slice-write-work c = let i = c .before .before .before .before .loop .inv in omega (arith, c .before .before .before .loop-test .taken, i .0, i .1 .marking .room)
 
-cast-t13 : tie.Need-cast-t13 Inv-loop μ-loop
-cast-t13 c = search needs
+cast-t15 : tie.Need-cast-t15 Inv-loop μ-loop
+cast-t15 c = search needs
 
 settle-type-requires : tie.Need-settle-type-requires Inv-loop μ-loop
 settle-type-requires c κs =
-    let b = c .before .before .before .before in
+    let b = c .before .before .before .before .before in
     let e = b .before .before .before in
     let i = b .loop .inv in
-    let low : b .loop .t < typeCount (e .args .words .now) = omega (arith, c .before .before .before .loop-test .taken, i .0) in (
-      e .pre .0,
-      (
-        omega (arith, low, types e),
-        (
-          settling-enter _ _ (i .1 .marking) _ low (c .before .if1 .taken) .marking,
-          helped-mark (helped-rest (e .pre .1 .1) _ _ (sym (types e)) (i .1 .size) (i .1 .rest)) _ _ (omega (arith, low, types e)),
-        ),
-      ),
+    let low : b .loop .t < typeCount (e .args .words .now) = omega (arith, c .before .before .before .before .loop-test .taken, i .0) in (
+      helped-mark (helped-rest (e .pre .0) _ _ (sym (types e)) (i .1 .size) (i .1 .rest)) _ _ (omega (arith, low, types e)),
+      (omega (arith, low, types e), settling-enter _ _ (i .1 .marking) _ low (c .before .if1 .taken) .marking),
     )
 
 add-t : tie.Need-add-t Inv-loop μ-loop
@@ -64,10 +58,10 @@ loop-less c = search needs
 
 loop-again : tie.Need-loop-again Inv-loop μ-loop
 loop-again c =
-    let b = c .before .before .before in
+    let b = c .before .before .before .before in
     let e = b .before .before .before in
     let i = b .loop .inv in
-    let low : b .loop .t < typeCount (e .args .words .now) = omega (arith, c .before .before .loop-test .taken, i .0) in (
+    let low : b .loop .t < typeCount (e .args .words .now) = omega (arith, c .before .before .before .loop-test .taken, i .0) in (
       i .0,
       ⊎-elim
           (λ w. rw (w .5) (settling-join _ (i .1) (settling-join _ (settling-enter _ _ (i .1 .marking) _ low (w .0 .taken)) (w .2 .ensures))))
@@ -95,7 +89,7 @@ settle-spec =
     slice-read-if1
     mul-work
     slice-write-work
-    cast-t13
+    cast-t15
     settle-type-requires
     add-t
     loop-less

@@ -3,7 +3,8 @@ use borrow.Author.Needs.{needs}
 use borrow.Author.Tests.{lt-ltb, le-ltb, le-leb, lt-leb}
 use native.Mathlib.Omega.{arith}
 use mathlib.Core.Path.{refl}
-use Rattle.evidence.specs.Chained.{chainTo}
+use Rattle.evidence.specs.ChainTo.{chainTo}
+use Rattle.evidence.proofs.ChainLaws.{chained}
 use Rattle.evidence.proofs.chain.chain_to.Statement.{statement}
 use Rattle.evidence.proofs.chain.chain_to.Tie as tie
 
@@ -17,19 +18,18 @@ returns-2 c =
     let fields-start-call = c .before .before .before .fields-start in
     rw (← fields-start-call .ensures, le-leb _ _ (c .before .before .if1 .left), ← c .before .chains-end .ensures, le-ltb _ _ (c .if2 .taken)) refl
 
-led-to-requires : tie.Need-led-to-requires
-led-to-requires c κs =
-    let pre = c .before .before .before .before .before .before .pre in
-    let args = c .before .before .before .before .before .before .args in
-    (pre .0, (omega (arith, pre .0 .inside (args .t .0) (pre .1 .0)), pre .1 .1))
+target-requires : tie.Need-target-requires
+target-requires c κs =
+    let e : tie.Start = c .before .before .before .before .before .before in
+    (e .pre .0, omega (arith, chained (e .pre .0 .rows) .inside (e .args .t .0) (e .pre .1)))
 
 returns-3 : tie.Need-returns-3
 unfolding chainTo
 returns-3 c =
     let fields-start-call = c .before .before .before .before .fields-start in
     let if1 = c .before .before .before .if1 in
-    let pre = c .before .before .before .before .before .before .before .pre in
-    rw (← fields-start-call .ensures, le-leb _ _ (if1 .left), ← c .before .before .chains-end .ensures, lt-ltb _ _ (c .before .if2 .left)) (rw (pre .0 .types) at (c .led-to .ensures))
+    let e : tie.Start = c .before .before .before .before .before .before .before in
+    rw (← fields-start-call .ensures, le-leb _ _ (if1 .left), ← c .before .before .chains-end .ensures, lt-ltb _ _ (c .before .if2 .left)) (rw (chained (e .pre .0 .rows) .types) at (c .target .ensures))
 
 pub chain-to-spec : {M : Type 1} → statement M
 chain-to-spec =
@@ -39,5 +39,5 @@ chain-to-spec =
     returns
     (λ c κs. search needs)  -- chains-end-requires
     returns-2
-    led-to-requires
+    target-requires
     returns-3)

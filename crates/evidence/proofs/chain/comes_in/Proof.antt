@@ -1,7 +1,7 @@
 -- `comes_in`: the tests of the definition, the last first.
 use borrow.Author.Needs.{needs}
 use mathlib.Core.Bool.{and-true}
-use mathlib.Core.Path.{refl, sym}
+use mathlib.Core.Path.{refl, sym, _∙_}
 use Rattle.names.proofs.BoolLaws.{passes, fails}
 use Rattle.evidence.proofs.ChainLaws.{comes-not, led, not-led}
 use Rattle.evidence.proofs.chain.comes_in.Statement.{statement}
@@ -15,12 +15,10 @@ returns-2 c = rw (not-led _ _ _ _ (c .before .before .chain-to .ensures) (c .enu
 
 returns-3 : tie.Need-returns-3
 returns-3 c =
-    let chain-to-call = c .before .before .before .before .before .chain-to in
-    let found = c .before .before .before .u in
-    let nearer-call = c .before .before .before .before .before .before .before .nearer in
-    let if1 = c .before .before .before .before .before .before .if1 in
-    let m = led _ _ _ _ (chain-to-call .ensures) _ (found .given .1) in
-    rw (m .chain, m .leads, passes (nearer-call .ensures) (if1 .left)) (sym (and-true _))
+    let found : tie.After-u = c .before .before in
+    let tested : tie.Else1 = found .before .before .before in
+    let m = led _ _ _ _ (found .before .before .chain-to .ensures) _ (found .u .given .1) in
+    rw (m .chain, m .leads, passes (tested .before .nearer .ensures) (tested .if1 .left)) (c .same .ensures ∙ sym (and-true _))
 
 pub comes-in-spec : {M : Type 1} → statement M
 comes-in-spec =
@@ -32,4 +30,5 @@ comes-in-spec =
     (λ c. search needs)  -- enum-known-u
     (λ c. search needs)  -- enum-told
     returns-2
+    (λ c κs. search needs)  -- same-requires
     returns-3)

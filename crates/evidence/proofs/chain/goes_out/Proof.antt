@@ -10,12 +10,11 @@ returns c = rw (not-led _ _ _ _ (c .before .before .chain-to .ensures) (c .enum-
 
 returns-2 : tie.Need-returns-2
 returns-2 c =
-    let chain-to-call = c .before .before .before .before .before .before .before .before .before .before .chain-to in
-    let found = c .before .before .before .before .before .before .before .before .u in
-    let leader-call = c .before .before .before .before .before .before .leader in
-    let leader2-call = c .before .before .before .before .before .leader2 in
-    let m = led _ _ _ _ (chain-to-call .ensures) _ (found .given .1) in
-    rw (m .chain, m .leads, ← c .before .before .leads .ensures, ← leader-call .ensures, ← leader2-call .ensures, ← c .before .out-distance .ensures .0, ← c .out-distance2 .ensures .0) refl
+    let s : tie.After-same = c .before .before .before in
+    let found : tie.After-u = s .before .before .before .before in
+    let m = led _ _ _ _ (found .before .before .chain-to .ensures) _ (found .u .given .1) in
+    rw (m .chain, m .leads)
+    (simp (c .before .before .leads .ensures, s .same .ensures, s .before .before .leader .ensures, s .before .leader2 .ensures, c .before .out-distance .ensures .0, c .out-distance2 .ensures .0))
 
 pub goes-out-spec : {M : Type 1} → statement M
 goes-out-spec =
@@ -27,6 +26,7 @@ goes-out-spec =
     returns
     (λ c κs. search needs)  -- leader-requires
     (λ c κs. search needs)  -- leader-requires-2
+    (λ c κs. search needs)  -- same-requires
     (λ c κs. search needs)  -- leads-requires
     (λ c κs. search needs)  -- out-distance-requires
     (λ c. search needs)  -- add-result

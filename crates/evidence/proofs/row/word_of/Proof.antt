@@ -18,7 +18,7 @@ word-of-spec =
     tie.close
     (tie.spec
     (λ c κs. search needs)  -- at-requires
-    (λ c. search needs)  -- mul-result
-    (λ c. search needs)  -- shared-slice-read-result
+    (λ c. search needs)  -- mul-t13
+    (λ c. search needs)  -- shared-slice-read-t15
     returns
     returns-2)

@@ -5,7 +5,8 @@ use mathlib.Core.Path.{sym, _∙_}
 use Rattle.records.proofs.Records.{emit-none}
 use borrow.Author.Tests.{lt-ltb, le-ltb}
 use Rattle.rows.proofs.FoundRows.{row-found, no-row, found-below}
-use Rattle.rules.specs.Interface.{fieldTypeRecord}
+use Rattle.implementing.specs.Interface.{fieldTypeRecord}
+use Rattle.implementing.specs.Rules.{fieldRule}
 use Rattle.implementing.proofs.implementation_field.validate_field_type.Statement.{statement}
 use Rattle.implementing.proofs.implementation_field.validate_field_type.Tie as tie
 
@@ -15,14 +16,14 @@ field-name-requires c κs = search needs
 find-field-requires : tie.Need-find-field-requires
 find-field-requires c κs = search needs
 
-enum-known-x : tie.Need-enum-known-x
-enum-known-x c = search needs
+enum-known-own-at : tie.Need-enum-known-own-at
+enum-known-own-at c = search needs
 
 enum-told : tie.Need-enum-told
 enum-told c = search needs
 
 returns : tie.Need-returns
-unfolding fieldTypeRecord
+unfolding fieldRule fieldTypeRecord
 returns c = let h = rw (c .before .before .before .field-name .ensures) at (no-row _ _ (sym (c .before .before .find-field .ensures) ∙ c .enum-told .given .1)) in
     (simp (le-ltb _ _ h) (emit-none _), omega arith)
 
@@ -33,30 +34,50 @@ field-wrap-requires : tie.Need-field-wrap-requires
 field-wrap-requires c κs = search needs
 
 field-type-requires-2 : tie.Need-field-type-requires-2
-field-type-requires-2 c κs = found-below _ _ _ (sym (c .before .before .before .before .before .find-field .ensures) ∙ c .before .before .before .x .given .1)
+field-type-requires-2 c κs = found-below _ _ _ (sym (c .before .before .before .before .before .find-field .ensures) ∙ c .before .before .before .own-at .given .1)
 
 field-wrap-requires-2 : tie.Need-field-wrap-requires-2
-field-wrap-requires-2 c κs = found-below _ _ _ (sym (c .before .before .before .before .before .before .find-field .ensures) ∙ c .before .before .before .before .x .given .1)
+field-wrap-requires-2 c κs =
+    let at-find-field = c .before .before .before .before .before .before in
+    found-below _ _ _ (sym (at-find-field .find-field .ensures) ∙ c .before .before .before .before .own-at .given .1)
 
 is-valid-implementation-field-type-requires : tie.Need-is-valid-implementation-field-type-requires
-is-valid-implementation-field-type-requires c κs = (c .before .before .before .before .before .before .before .before .before .before .before .before .before .before .pre .0, c .before .before .before .before .before .before .before .before .before .before .before .before .before .before .pre .1 .1 .1 .1)
+is-valid-implementation-field-type-requires c κs =
+    let entry = c .before .before .before .before .before .before .before .before .before .before .before .before .before .before in
+    entry .pre .0
 
 returns-2 : tie.Need-returns-2
-unfolding fieldTypeRecord
-returns-2 c = let e = rw (c .before .before .before .before .before .before .before .before .before .before .field-name .ensures) at (row-found _ _ _ (sym (c .before .before .before .before .before .before .before .before .before .find-field .ensures) ∙ c .before .before .before .before .before .before .before .x .given .1)) in
-    (simp (← e, lt-ltb _ _ (found-below _ _ _ (sym (c .before .before .before .before .before .before .before .before .before .find-field .ensures) ∙ c .before .before .before .before .before .before .before .x .given .1)), simp (c .before .before .before .before .before .field-type .ensures, c .before .before .before .before .field-wrap .ensures, c .before .before .before .field-type2 .ensures, c .before .before .field-wrap2 .ensures) at (sym (c .before .is-valid-implementation-field-type .ensures) ∙ c .if1 .taken)) (emit-none _), omega arith)
+unfolding fieldRule fieldTypeRecord
+returns-2 c =
+    let at-own-at = c .before .before .before .before .before .before .before in
+    let at-find-field = at-own-at .before .before in
+    let at-field-name = at-find-field .before in
+    let e = rw (at-field-name .field-name .ensures) at (row-found _ _ _ (sym (at-find-field .find-field .ensures) ∙ at-own-at .own-at .given .1)) in
+    (simp (← e, lt-ltb _ _ (found-below _ _ _ (sym (at-find-field .find-field .ensures) ∙ at-own-at .own-at .given .1)), simp (c .before .before .before .before .before .field-type .ensures, c .before .before .before .before .field-wrap .ensures, c .before .before .before .field-type2 .ensures, c .before .before .field-wrap2 .ensures) at (sym (c .before .is-valid-implementation-field-type .ensures) ∙ c .if1 .taken)) (emit-none _), omega arith)
 
-add-invalid-implementation-field-type : tie.Need-add-invalid-implementation-field-type
-add-invalid-implementation-field-type c = omega (arith, c .before .before .before .before .before .before .before .before .before .before .before .before .before .before .before .before .before .pre .1 .1 .1 .0, c .before .before .before .before .before .before .before .before .before .before .before .before .before .before .before .before .before .pre .1 .1 .0 .within, c .before .before .before .before .before .before .before .before .before .before .before .before .before .before .before .before .before .pre .0 .laid .fields-most)
+add-row : tie.Need-add-row
+add-row c =
+    let entry = c .before .before .before .before .before .before .before .before .before .before .before .before .before .before .before .before .before in
+    omega (arith, entry .pre .1 .1 .1, entry .pre .1 .1 .0 .within, entry .pre .0 .rows .laid .fields-most)
 
-cast-invalid-implementation-field-type : tie.Need-cast-invalid-implementation-field-type
-cast-invalid-implementation-field-type c = omega (arith, c .before .before .before .before .before .before .before .before .before .before .before .before .before .before .before .before .before .pre .1 .1 .1 .0, c .before .before .before .before .before .before .before .before .before .before .before .before .before .before .before .before .before .pre .1 .1 .0 .within, c .before .before .before .before .before .before .before .before .before .before .before .before .before .before .before .before .before .pre .0 .laid .fields-most)
+cast-row : tie.Need-cast-row
+cast-row c =
+    let entry = c .before .before .before .before .before .before .before .before .before .before .before .before .before .before .before .before .before in
+    omega (arith, entry .pre .1 .1 .1, entry .pre .1 .1 .0 .within, entry .pre .0 .rows .laid .fields-most)
 
-add-invalid-implementation-field-type-2 : tie.Need-add-invalid-implementation-field-type-2
-add-invalid-implementation-field-type-2 c = let b = found-below _ _ _ (sym (c .before .before .before .before .before .before .before .before .before .before .find-field .ensures) ∙ c .before .before .before .before .before .before .before .before .x .given .1) in omega (arith, c .before .before .before .before .before .before .before .before .before .before .before .before .before .before .before .before .before .pre .1 .0 .within, c .before .before .before .before .before .before .before .before .before .before .before .before .before .before .before .before .before .pre .0 .laid .fields-most)
+add-own-row : tie.Need-add-own-row
+add-own-row c =
+    let at-own-at = c .before .before .before .before .before .before .before .before .before in
+    let at-find-field = at-own-at .before .before in
+    let entry = at-find-field .before .before .before .before .before .before .before in
+    let b = found-below _ _ _ (sym (at-find-field .find-field .ensures) ∙ at-own-at .own-at .given .1) in omega (arith, entry .pre .1 .0 .within, entry .pre .0 .rows .laid .fields-most)
 
-cast-invalid-implementation-field-type-2 : tie.Need-cast-invalid-implementation-field-type-2
-cast-invalid-implementation-field-type-2 c = let b = found-below _ _ _ (sym (c .before .before .before .before .before .before .before .before .before .before .find-field .ensures) ∙ c .before .before .before .before .before .before .before .before .x .given .1) in omega (arith, c .before .before .before .before .before .before .before .before .before .before .before .before .before .before .before .before .before .pre .1 .0 .within, c .before .before .before .before .before .before .before .before .before .before .before .before .before .before .before .before .before .pre .0 .laid .fields-most)
+cast-own-row : tie.Need-cast-own-row
+cast-own-row c =
+    let at-own-at = c .before .before .before .before .before .before .before .before .before in
+    let at-find-field = at-own-at .before .before in
+    let entry = at-find-field .before .before .before .before .before .before .before in
+    let b = found-below _ _ _ (sym (at-find-field .find-field .ensures) ∙ at-own-at .own-at .given .1) in omega (arith, entry .pre .1 .0 .within, entry .pre .0 .rows .laid .fields-most)
 
 invalid-implementation-field-type-requires : tie.Need-invalid-implementation-field-type-requires
 invalid-implementation-field-type-requires c κs = search needs
@@ -68,9 +89,19 @@ same-length : tie.Need-same-length
 same-length c = search needs
 
 returns-3 : tie.Need-returns-3
-unfolding fieldTypeRecord
-returns-3 c = let e = rw (c .before .before .before .before .before .before .before .before .before .before .before .before .before .before .before .field-name .ensures) at (row-found _ _ _ (sym (c .before .before .before .before .before .before .before .before .before .before .before .before .before .before .find-field .ensures) ∙ c .before .before .before .before .before .before .before .before .before .before .before .before .x .given .1)) in
-    (simp (← e, lt-ltb _ _ (found-below _ _ _ (sym (c .before .before .before .before .before .before .before .before .before .before .before .before .before .before .find-field .ensures) ∙ c .before .before .before .before .before .before .before .before .before .before .before .before .x .given .1)), simp (c .before .before .before .before .before .before .before .before .before .before .field-type .ensures, c .before .before .before .before .before .before .before .before .before .field-wrap .ensures, c .before .before .before .before .before .before .before .before .field-type2 .ensures, c .before .before .before .before .before .before .before .field-wrap2 .ensures) at (sym (c .before .before .before .before .before .before .is-valid-implementation-field-type .ensures) ∙ c .before .before .before .before .before .if1 .left), ← c .before .before .before .invalid-implementation-field-type .ensures) (c .before .before .put .ensures .0), c .before .before .put .ensures .1)
+unfolding fieldRule fieldTypeRecord
+returns-3 c =
+    let at-if1 = c .before .before .before .before .before .before .before in
+    let at-is-valid-implementation-field-type = at-if1 .before in
+    let at-field-wrap2 = at-is-valid-implementation-field-type .before in
+    let at-field-type2 = at-field-wrap2 .before in
+    let at-field-wrap = at-field-type2 .before in
+    let at-field-type = at-field-wrap .before in
+    let at-own-at = at-field-type .before .before in
+    let at-find-field = at-own-at .before .before in
+    let at-field-name = at-find-field .before in
+    let e = rw (at-field-name .field-name .ensures) at (row-found _ _ _ (sym (at-find-field .find-field .ensures) ∙ at-own-at .own-at .given .1)) in
+    (simp (← e, lt-ltb _ _ (found-below _ _ _ (sym (at-find-field .find-field .ensures) ∙ at-own-at .own-at .given .1)), simp (at-field-type .field-type .ensures, at-field-wrap .field-wrap .ensures, at-field-type2 .field-type2 .ensures, at-field-wrap2 .field-wrap2 .ensures) at (sym (at-is-valid-implementation-field-type .is-valid-implementation-field-type .ensures) ∙ at-if1 .if1 .left), ← c .before .before .before .invalid-implementation-field-type .ensures) (c .before .before .put .ensures .0), c .before .before .put .ensures .1)
 
 pub validate-field-type-spec : {M : Type 1} → statement M
 validate-field-type-spec =
@@ -78,7 +109,7 @@ validate-field-type-spec =
     (tie.spec
     field-name-requires
     find-field-requires
-    enum-known-x
+    enum-known-own-at
     enum-told
     returns
     field-type-requires
@@ -87,10 +118,10 @@ validate-field-type-spec =
     field-wrap-requires-2
     is-valid-implementation-field-type-requires
     returns-2
-    add-invalid-implementation-field-type
-    cast-invalid-implementation-field-type
-    add-invalid-implementation-field-type-2
-    cast-invalid-implementation-field-type-2
+    add-row
+    cast-row
+    add-own-row
+    cast-own-row
     invalid-implementation-field-type-requires
     put-requires
     same-length

@@ -1,10 +1,11 @@
 -- `validate_interface_fields`: after i rows the output holds their records, and each turn writes one row's behind them.
 use borrow.Author.Needs.{needs}
 use native.Mathlib.Omega.{arith}
-use Rattle.rules.specs.Bounds.{mostOfInterfaceField}
+use Rattle.comparing.specs.Bounds.{mostOfInterfaceField}
 use Rattle.records.proofs.Records.{each-zero, each-more, emit-none, emit-seq}
 use Rattle.records.specs.Records.{Emitted, each}
-use Rattle.implementing.specs.Rules.{fieldRule}
+use Rattle.implementing.specs.Rules.{fieldRule, eachField}
+use Rattle.implementing.specs.Interface.{interfaceFields}
 use mathlib.Core.Path.{_≡_}
 use Prim.Native.Nat.{_≤_, _-_, _*_}
 use Rattle.rows.specs.Parts.{fieldRows}
@@ -12,10 +13,16 @@ use Rattle.implementing.proofs.implementation_field.validate_interface_
 use Rattle.implementing.proofs.implementation_field.validate_interface_fields.Tie as tie
 
 abbrev Inv-loop : tie.InvT-loop
-Inv-loop rule words l order t first fields e ifs ifirst out₀ rows n₀ i₀ out n i = (i ≤ fieldRows ifs) × (rows ≡ fieldRows ifs) × (n ≤ mostOfInterfaceField * i) × Emitted (each (fieldRule rule words (t .0) first fields e ifs ifirst) i) out₀ out n
+Inv-loop rule words l order own fields edge out₀ first demanded rows n₀ i₀ out n i = (i ≤ fieldRows demanded) × (rows ≡ fieldRows demanded) × (n ≤ mostOfInterfaceField * i) × Emitted (each (λ k. fieldRule rule words own fields demanded (record { edge = edge; first = first; at = k })) i) out₀ out n
 
 abbrev μ-loop : tie.MeasureT-loop
-μ-loop rule words l order t first fields e ifs ifirst out₀ rows n₀ i₀ out n i = fieldRows ifs - i
+μ-loop rule words l order own fields edge out₀ first demanded rows n₀ i₀ out n i = fieldRows demanded - i
+
+fields-start-requires : tie.Need-fields-start-requires Inv-loop μ-loop
+fields-start-requires c κs = search needs
+
+fields-of-requires : tie.Need-fields-of-requires Inv-loop μ-loop
+fields-of-requires c κs = search needs
 
 field-rows-requires : tie.Need-field-rows-requires Inv-loop μ-loop
 field-rows-requires c κs = search needs
@@ -39,7 +46,10 @@ part-validate-interface-field-end : tie.Need-part-validate-interface-field-end I
 part-validate-interface-field-end c = search needs
 
 validate-interface-field-requires : tie.Need-validate-interface-field-requires Inv-loop μ-loop
-validate-interface-field-requires c κs = (c .before .before .before .before .before .before .before .before .before .before .pre .0, (c .before .before .before .before .before .before .before .before .before .before .pre .1 .0, (c .before .before .before .before .before .before .before .before .before .before .pre .1 .1 .0, ((rw (c .before .before .before .loop .inv .1) at (c .before .before .loop-test .taken)), c .before .before .before .before .before .before .before .before .before .before .pre .1 .1 .1))))
+validate-interface-field-requires c κs =
+    let at-fields-start = c .before .before .before .before .before .before in
+    let entry = at-fields-start .before .before .before .before .before in
+    (entry .pre .0, (entry .pre .1 .0, (rw (at-fields-start .fields-start .ensures) (c .before .before .before .before .before .fields-of .ensures .1), rw (c .before .before .before .loop .inv .1) at (c .before .before .loop-test .taken))))
 
 add-n : tie.Need-add-n Inv-loop μ-loop
 add-n c = search needs
@@ -51,13 +61,16 @@ loop-less : tie.Need-loop-less Inv-loop μ-loop
 loop-less c = search needs
 
 loop-again : tie.Need-loop-again Inv-loop μ-loop
-loop-again c = (search needs, c .before .before .before .before .before .before .loop .inv .1, search needs, rw each-more (emit-seq _ _ _ _ _ _ _ _ (c .before .before .before .before .before .before .loop .inv .3) (c .before .before .before .before .used .ensures) (c .before .before .validate-interface-field .ensures .0)))
+loop-again c =
+    let turn = c .before .before .before .before .before .before in
+    (search needs, turn .loop .inv .1, search needs, rw each-more (emit-seq _ _ _ _ _ _ _ _ (turn .loop .inv .3) (c .before .before .before .before .used .ensures) (c .before .before .validate-interface-field .ensures .0)))
 
 same-length : tie.Need-same-length Inv-loop μ-loop
 same-length c = search needs
 
 returns : tie.Need-returns Inv-loop μ-loop
-returns c = let e : c .before .loop .i ≡ fieldRows (c .before .before .before .before .before .before .before .before .args .interface-fields .now) = omega arith in (rw e at (c .before .loop .inv .3), omega arith)
+unfolding eachField interfaceFields
+returns c = let e : c .before .loop .i ≡ fieldRows (c .before .before .before .fields-of .result .now) = omega arith in (simp (c .before .before .before .before .fields-start .ensures, c .before .before .before .fields-of .ensures .0) at (rw e at (c .before .loop .inv .3)), omega arith)
 
 pub validate-interface-fields-spec : {M : Type 1} → statement M
 validate-interface-fields-spec =
@@ -65,6 +78,8 @@ validate-interface-fields-spec =
     (tie.spec
     Inv-loop
     μ-loop
+    fields-start-requires
+    fields-of-requires
     field-rows-requires
     loop-holds
     used-requires

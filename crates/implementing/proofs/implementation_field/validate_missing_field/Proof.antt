@@ -5,7 +5,7 @@ use mathlib.Core.Path.{sym, _∙_}
 use Rattle.records.proofs.Records.{emit-none}
 use borrow.Author.Tests.{lt-ltb, le-ltb}
 use Rattle.rows.proofs.FoundRows.{row-below, no-row}
-use Rattle.rules.specs.Interface.{missingField}
+use Rattle.implementing.specs.Interface.{missingField}
 use Rattle.implementing.proofs.implementation_field.validate_missing_field.Statement.{statement}
 use Rattle.implementing.proofs.implementation_field.validate_missing_field.Tie as tie
 
@@ -21,11 +21,11 @@ enum-told c = search needs
 enum-told-2 : tie.Need-enum-told-2
 enum-told-2 c = search needs
 
-add-missing-interface-field : tie.Need-add-missing-interface-field
-add-missing-interface-field c = search needs
+add-row : tie.Need-add-row
+add-row c = search needs
 
-cast-missing-interface-field : tie.Need-cast-missing-interface-field
-cast-missing-interface-field c = search needs
+cast-row : tie.Need-cast-row
+cast-row c = search needs
 
 missing-interface-field-requires : tie.Need-missing-interface-field-requires
 missing-interface-field-requires c κs = search needs
@@ -38,7 +38,11 @@ same-length c = search needs
 
 returns : tie.Need-returns
 unfolding missingField
-returns c = let h = rw (c .before .before .before .before .before .before .before .before .field-name .ensures) at (no-row _ _ (sym (c .before .before .before .before .before .before .before .find-field .ensures) ∙ c .before .before .before .before .before .enum-told2 .given .1)) in
+returns c =
+    let at-enum-told2 = c .before .before .before .before .before .before in
+    let at-find-field = at-enum-told2 .before .before in
+    let at-field-name = at-find-field .before in
+    let h = rw (at-field-name .field-name .ensures) at (no-row _ _ (sym (at-find-field .find-field .ensures) ∙ at-enum-told2 .enum-told2 .given .1)) in
     (simp (le-ltb _ _ h, ← c .before .before .before .missing-interface-field .ensures) (c .before .before .put .ensures .0), c .before .before .put .ensures .1)
 
 returns-2 : tie.Need-returns-2
@@ -54,8 +58,8 @@ validate-missing-field-spec =
     find-field-requires
     enum-told
     enum-told-2
-    add-missing-interface-field
-    cast-missing-interface-field
+    add-row
+    cast-row
     missing-interface-field-requires
     put-requires
     same-length

@@ -3,14 +3,25 @@ use borrow.Author.Needs.{needs}
 use native.Mathlib.Omega.{arith}
 use mathlib.Core.Path.{sym, _∙_}
 use Rattle.records.proofs.Records.{emit-none}
+use Rattle.implementing.specs.Interface.{transitiveEdge}
 use Rattle.implementing.proofs.implements_interfaces.validate_transitive_edge.Statement.{statement}
 use Rattle.implementing.proofs.implements_interfaces.validate_transitive_edge.Tie as tie
+
+edge-name-requires : tie.Need-edge-name-requires
+edge-name-requires c κs = search needs
 
 has-name-requires : tie.Need-has-name-requires
 has-name-requires c κs = search needs
 
 returns : tie.Need-returns
-returns c = (simp (sym (c .before .has-name .ensures) ∙ c .if1 .taken) (emit-none _), omega arith)
+unfolding transitiveEdge
+returns c = (simp (rw (c .before .before .edge-name .ensures) at (sym (c .before .has-name .ensures) ∙ c .if1 .taken)) (emit-none _), omega arith)
+
+add-row : tie.Need-add-row
+add-row c = search needs
+
+cast-row : tie.Need-cast-row
+cast-row c = search needs
 
 transitive-implemented-interfaces-requires : tie.Need-transitive-implemented-interfaces-requires
 transitive-implemented-interfaces-requires c κs = search needs
@@ -22,14 +33,21 @@ same-length : tie.Need-same-length
 same-length c = search needs
 
 returns-2 : tie.Need-returns-2
-returns-2 c = (simp (sym (c .before .before .before .before .before .before .has-name .ensures) ∙ c .before .before .before .before .before .if1 .left, ← c .before .before .before .transitive-implemented-interfaces .ensures) (c .before .before .put .ensures .0), c .before .before .put .ensures .1)
+unfolding transitiveEdge
+returns-2 c =
+    let at-has-name = c .before .before .before .before .before .before in
+    let at-edge-name = at-has-name .before in
+    (simp (rw (at-edge-name .edge-name .ensures) at (sym (at-has-name .has-name .ensures) ∙ c .before .before .before .before .before .if1 .left), ← c .before .before .before .transitive-implemented-interfaces .ensures) (c .before .before .put .ensures .0), c .before .before .put .ensures .1)
 
 pub validate-transitive-edge-spec : {M : Type 1} → statement M
 validate-transitive-edge-spec =
     tie.close
     (tie.spec
+    edge-name-requires
     has-name-requires
     returns
+    add-row
+    cast-row
     transitive-implemented-interfaces-requires
     put-requires
     same-length

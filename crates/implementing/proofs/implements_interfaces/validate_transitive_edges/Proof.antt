@@ -3,36 +3,33 @@ use borrow.Author.Needs.{needs}
 use native.Mathlib.Omega.{arith}
 use Rattle.records.proofs.Records.{each-zero, each-more, emit-none, emit-seq}
 use Rattle.records.specs.Records.{Emitted, each}
-use Rattle.rules.specs.Interface.{transitiveEdge}
+use Rattle.implementing.specs.Interface.{transitiveEdge, transitiveEdges}
 use mathlib.Core.Path.{_≡_}
-use Prim.Native.Nat.{_≤_, _-_, _*_}
-use lib.ListN.{length}
+use Prim.Native.Nat.{_≤_, _-_}
+use Rattle.rows.specs.Parts.{edgeRows}
 use Rattle.implementing.proofs.implements_interfaces.validate_transitive_edges.Statement.{statement}
 use Rattle.implementing.proofs.implements_interfaces.validate_transitive_edges.Tie as tie
 
 abbrev Inv-loop : tie.InvT-loop
-Inv-loop t edges e first ies out₀ n₀ i₀ out n i = (i ≤ length ies) × (n ≤ 1 * i) × Emitted (each (transitiveEdge (t .0) edges e first ies) i) out₀ out n
+Inv-loop words ty edges viaEdge out₀ first demanded rows n₀ i₀ out n i = (i ≤ edgeRows demanded) × (rows ≡ edgeRows demanded) × (n ≤ i) × Emitted (each (transitiveEdge (ty .0) edges viaEdge first demanded) i) out₀ out n
 
 abbrev μ-loop : tie.MeasureT-loop
-μ-loop t edges e first ies out₀ n₀ i₀ out n i = length ies - i
+μ-loop words ty edges viaEdge out₀ first demanded rows n₀ i₀ out n i = edgeRows demanded - i
+
+edges-start-requires : tie.Need-edges-start-requires Inv-loop μ-loop
+edges-start-requires c κs = search needs
+
+edges-of-requires : tie.Need-edges-of-requires Inv-loop μ-loop
+edges-of-requires c κs = search needs
+
+edge-rows-requires : tie.Need-edge-rows-requires Inv-loop μ-loop
+edge-rows-requires c κs = search needs
 
 loop-holds : tie.Need-loop-holds Inv-loop μ-loop
-loop-holds c = (omega arith, omega arith, rw each-zero (emit-none _))
+loop-holds c = (omega arith, c .edge-rows .ensures, omega arith, rw each-zero (emit-none _))
 
 used-requires : tie.Need-used-requires Inv-loop μ-loop
 used-requires c κs = search needs
-
-mul-t12 : tie.Need-mul-t12 Inv-loop μ-loop
-mul-t12 c = search needs
-
-shared-slice-read-t14 : tie.Need-shared-slice-read-t14 Inv-loop μ-loop
-shared-slice-read-t14 c = search needs
-
-add-validate-transitive-edge : tie.Need-add-validate-transitive-edge Inv-loop μ-loop
-add-validate-transitive-edge c = search needs
-
-cast-validate-transitive-edge : tie.Need-cast-validate-transitive-edge Inv-loop μ-loop
-cast-validate-transitive-edge c = search needs
 
 mul-validate-transitive-edge : tie.Need-mul-validate-transitive-edge Inv-loop μ-loop
 mul-validate-transitive-edge c = search needs
@@ -47,7 +44,9 @@ part-validate-transitive-edge-end : tie.Need-part-validate-transitive-edge-end I
 part-validate-transitive-edge-end c = search needs
 
 validate-transitive-edge-requires : tie.Need-validate-transitive-edge-requires Inv-loop μ-loop
-validate-transitive-edge-requires c κs = search needs
+validate-transitive-edge-requires c κs =
+    let at-edges-start = c .before .before .before .before .before .before in
+    (rw (c .before .before .before .loop .inv .1) at (c .before .before .loop-test .taken), rw (at-edges-start .edges-start .ensures) (c .before .before .before .before .before .edges-of .ensures .1 .within))
 
 add-n : tie.Need-add-n Inv-loop μ-loop
 add-n c = search needs
@@ -59,14 +58,16 @@ loop-less : tie.Need-loop-less Inv-loop μ-loop
 loop-less c = search needs
 
 loop-again : tie.Need-loop-again Inv-loop μ-loop
-unfolding transitiveEdge
-loop-again c = (search needs, search needs, rw each-more (emit-seq _ _ _ _ _ _ _ _ (c .before .before .before .before .before .before .before .loop .inv .2) (c .before .before .before .before .before .used .ensures) (c .before .before .validate-transitive-edge .ensures .0)))
+loop-again c =
+    let turn = c .before .before .before .before .before .before in
+    (search needs, turn .loop .inv .1, search needs, rw each-more (emit-seq _ _ _ _ _ _ _ _ (turn .loop .inv .3) (c .before .before .before .before .used .ensures) (c .before .before .validate-transitive-edge .ensures .0)))
 
 same-length : tie.Need-same-length Inv-loop μ-loop
 same-length c = search needs
 
 returns : tie.Need-returns Inv-loop μ-loop
-returns c = let e : c .before .loop .i ≡ length (c .before .before .before .before .before .args .interface-edges .now) = omega arith in (rw e at (c .before .loop .inv .2), omega arith)
+unfolding transitiveEdges
+returns c = let e : c .before .loop .i ≡ edgeRows (c .before .before .before .edges-of .result .now) = omega arith in (simp (c .before .before .before .before .edges-start .ensures, c .before .before .before .edges-of .ensures .0) at (rw e at (c .before .loop .inv .3)), omega arith)
 
 pub validate-transitive-edges-spec : {M : Type 1} → statement M
 validate-transitive-edges-spec =
@@ -74,12 +75,11 @@ validate-transitive-edges-spec =
     (tie.spec
     Inv-loop
     μ-loop
+    edges-start-requires
+    edges-of-requires
+    edge-rows-requires
     loop-holds
     used-requires
-    mul-t12
-    shared-slice-read-t14
-    add-validate-transitive-edge
-    cast-validate-transitive-edge
     mul-validate-transitive-edge
     sub-validate-transitive-edge
     part-validate-transitive-edge-start

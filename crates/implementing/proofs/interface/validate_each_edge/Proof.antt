@@ -1,39 +1,30 @@
 -- `validate_each_edge`: after i rows the output holds their records, and each turn writes one row's behind them.
 use borrow.Author.Needs.{needs}
 use native.Mathlib.Omega.{arith}
-use Rattle.rules.specs.Bounds.{mostOfInterface}
+use Rattle.implementing.specs.Bounds.{mostOfInterface}
 use Rattle.records.proofs.Records.{each-zero, each-more, emit-none, emit-seq}
 use Rattle.records.specs.Records.{Emitted, each}
 use Rattle.implementing.specs.Rules.{edgeRule, eachEdge}
 use mathlib.Core.Path.{_≡_}
-use Prim.Native.Nat.{_≤_, _-_, _+_, _*_}
-use lib.ListN.{length, getD}
+use Prim.Native.Nat.{_≤_, _-_, _*_}
+use Rattle.rows.specs.Parts.{edgeRows}
 use Rattle.implementing.proofs.interface.validate_each_edge.Statement.{statement}
 use Rattle.implementing.proofs.interface.validate_each_edge.Tie as tie
 
 abbrev Inv-loop : tie.InvT-loop
-Inv-loop rule words l order t first edges ffirst fields out₀ n₀ i₀ out n i = (i ≤ length edges) × (n ≤ mostOfInterface * i) × Emitted (each (λ k. edgeRule rule words (t .0) edges ffirst fields (getD edges k 0) (first + k)) i) out₀ out n
+Inv-loop rule words l order own edges fields out₀ rows n₀ i₀ out n i = (i ≤ edgeRows edges) × (rows ≡ edgeRows edges) × (n ≤ mostOfInterface * i) × Emitted (each (edgeRule rule words own edges fields) i) out₀ out n
 
 abbrev μ-loop : tie.MeasureT-loop
-μ-loop rule words l order t first edges ffirst fields out₀ n₀ i₀ out n i = length edges - i
+μ-loop rule words l order own edges fields out₀ rows n₀ i₀ out n i = edgeRows edges - i
+
+edge-rows-requires : tie.Need-edge-rows-requires Inv-loop μ-loop
+edge-rows-requires c κs = search needs
 
 loop-holds : tie.Need-loop-holds Inv-loop μ-loop
-loop-holds c = (omega arith, omega arith, rw each-zero (emit-none _))
+loop-holds c = (omega arith, c .edge-rows .ensures, omega arith, rw each-zero (emit-none _))
 
 used-requires : tie.Need-used-requires Inv-loop μ-loop
 used-requires c κs = search needs
-
-mul-t16 : tie.Need-mul-t16 Inv-loop μ-loop
-mul-t16 c = search needs
-
-shared-slice-read-t18 : tie.Need-shared-slice-read-t18 Inv-loop μ-loop
-shared-slice-read-t18 c = search needs
-
-add-validate-edge : tie.Need-add-validate-edge Inv-loop μ-loop
-add-validate-edge c = search needs
-
-cast-validate-edge : tie.Need-cast-validate-edge Inv-loop μ-loop
-cast-validate-edge c = search needs
 
 mul-validate-edge : tie.Need-mul-validate-edge Inv-loop μ-loop
 mul-validate-edge c = search needs
@@ -48,7 +39,9 @@ part-validate-edge-end : tie.Need-part-validate-edge-end Inv-loop μ-loop
 part-validate-edge-end c = search needs
 
 validate-edge-requires : tie.Need-validate-edge-requires Inv-loop μ-loop
-validate-edge-requires c κs = search needs
+validate-edge-requires c κs =
+    let entry = c .before .before .before .before .before .before .before .before .before .before in
+    (entry .pre .0, (entry .pre .1 .0, (entry .pre .1 .1, rw (c .before .before .before .loop .inv .1) at (c .before .before .loop-test .taken))))
 
 add-n : tie.Need-add-n Inv-loop μ-loop
 add-n c = search needs
@@ -60,14 +53,18 @@ loop-less : tie.Need-loop-less Inv-loop μ-loop
 loop-less c = search needs
 
 loop-again : tie.Need-loop-again Inv-loop μ-loop
-loop-again c = (search needs, search needs, rw each-more (emit-seq _ _ _ _ _ _ _ _ (c .before .before .before .before .before .before .before .loop .inv .2) (c .before .before .before .before .before .used .ensures) (c .before .before .validate-edge .ensures .0)))
+loop-again c =
+    let turn = c .before .before .before .before .before .before in
+    (search needs, turn .loop .inv .1, search needs, rw each-more (emit-seq _ _ _ _ _ _ _ _ (turn .loop .inv .3) (c .before .before .before .before .used .ensures) (c .before .before .validate-edge .ensures .0)))
 
 same-length : tie.Need-same-length Inv-loop μ-loop
 same-length c = search needs
 
 returns : tie.Need-returns Inv-loop μ-loop
 unfolding eachEdge
-returns c = let e : c .before .loop .i ≡ length (c .before .before .before .before .before .before .before .args .edges .now) = omega arith in (rw e at (c .before .loop .inv .2), omega arith)
+returns c =
+    let entry = c .before .before .before .before .before .before .before .before in
+    let e : c .before .loop .i ≡ edgeRows (entry .args .edges .now) = omega arith in (rw e at (c .before .loop .inv .3), omega arith)
 
 pub validate-each-edge-spec : {M : Type 1} → statement M
 validate-each-edge-spec =
@@ -75,12 +72,9 @@ validate-each-edge-spec =
     (tie.spec
     Inv-loop
     μ-loop
+    edge-rows-requires
     loop-holds
     used-requires
-    mul-t16
-    shared-slice-read-t18
-    add-validate-edge
-    cast-validate-edge
     mul-validate-edge
     sub-validate-edge
     part-validate-edge-start

@@ -2,31 +2,30 @@
 use borrow.Author.Needs.{needs}
 use native.Mathlib.Omega.{arith}
 use Rattle.records.proofs.Records.{emit-seq}
-use Rattle.implementing.specs.Rules.{eachEdge, edgeRule, definedRule, fieldRule}
-use Rattle.rules.specs.Interface.{edgesRecords, definedEdges}
+use Rattle.implementing.specs.Interface.{edgesRecords}
 use Rattle.implementing.proofs.interface.validate_edges.Statement.{statement}
 use Rattle.implementing.proofs.interface.validate_edges.Tie as tie
 
-validate-implementation-fields-requires : tie.Need-validate-implementation-fields-requires
-validate-implementation-fields-requires c κs = search needs
+validate-implements-interfaces-requires : tie.Need-validate-implements-interfaces-requires
+validate-implements-interfaces-requires c κs = search needs
 
 used-requires : tie.Need-used-requires
 used-requires c κs = search needs
 
-mul-validate-each-edge : tie.Need-mul-validate-each-edge
-mul-validate-each-edge c = search needs
+mul-validate-implementation-fields : tie.Need-mul-validate-implementation-fields
+mul-validate-implementation-fields c = search needs
 
-sub-validate-each-edge : tie.Need-sub-validate-each-edge
-sub-validate-each-edge c = search needs
+sub-validate-implementation-fields : tie.Need-sub-validate-implementation-fields
+sub-validate-implementation-fields c = search needs
 
-part-validate-each-edge-start : tie.Need-part-validate-each-edge-start
-part-validate-each-edge-start c = search needs
+part-validate-implementation-fields-start : tie.Need-part-validate-implementation-fields-start
+part-validate-implementation-fields-start c = search needs
 
-part-validate-each-edge-end : tie.Need-part-validate-each-edge-end
-part-validate-each-edge-end c = search needs
+part-validate-implementation-fields-end : tie.Need-part-validate-implementation-fields-end
+part-validate-implementation-fields-end c = search needs
 
-validate-each-edge-requires : tie.Need-validate-each-edge-requires
-validate-each-edge-requires c κs = search needs
+validate-implementation-fields-requires : tie.Need-validate-implementation-fields-requires
+validate-implementation-fields-requires c κs = search needs
 
 add-result : tie.Need-add-result
 add-result c = search needs
@@ -35,20 +34,22 @@ same-length : tie.Need-same-length
 same-length c = search needs
 
 returns : tie.Need-returns
-unfolding edgesRecords eachEdge edgeRule definedRule fieldRule definedEdges
-returns c = (emit-seq _ _ _ _ _ _ _ _ (c .before .before .before .before .before .before .before .validate-implementation-fields .ensures .0) (c .before .before .before .before .used .ensures) (c .before .before .validate-each-edge .ensures .0), omega (arith, c .before .before .before .before .before .before .before .validate-implementation-fields .ensures .1, c .before .before .validate-each-edge .ensures .1))
+unfolding edgesRecords
+returns c =
+    let at-validate-implements-interfaces = c .before .before .before .before .before .before .before in
+    (emit-seq _ _ _ _ _ _ _ _ (at-validate-implements-interfaces .validate-implements-interfaces .ensures .0) (c .before .before .before .before .used .ensures) (c .before .before .validate-implementation-fields .ensures .0), omega (arith, at-validate-implements-interfaces .validate-implements-interfaces .ensures .1, c .before .before .validate-implementation-fields .ensures .1))
 
 pub validate-edges-spec : {M : Type 1} → statement M
 validate-edges-spec =
     tie.close
     (tie.spec
-    validate-implementation-fields-requires
+    validate-implements-interfaces-requires
     used-requires
-    mul-validate-each-edge
-    sub-validate-each-edge
-    part-validate-each-edge-start
-    part-validate-each-edge-end
-    validate-each-edge-requires
+    mul-validate-implementation-fields
+    sub-validate-implementation-fields
+    part-validate-implementation-fields-start
+    part-validate-implementation-fields-end
+    validate-implementation-fields-requires
     add-result
     same-length
     returns)

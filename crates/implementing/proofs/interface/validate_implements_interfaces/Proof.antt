@@ -2,8 +2,8 @@
 use borrow.Author.Needs.{needs}
 use native.Mathlib.Omega.{arith}
 use Rattle.records.proofs.Records.{emit-seq}
-use Rattle.implementing.specs.Rules.{eachEdge, edgeRule, definedRule}
-use Rattle.rules.specs.Interface.{implementsRecords, definedEdges, undefinedEdge}
+use Rattle.implementing.specs.Rules.{eachEdge, edgeRule, definedEdge, definedRule}
+use Rattle.implementing.specs.Interface.{implementsRecords, definedEdges}
 use Rattle.implementing.proofs.interface.validate_implements_interfaces.Statement.{
   statement,
 }
@@ -37,8 +37,10 @@ same-length : tie.Need-same-length
 same-length c = search needs
 
 returns : tie.Need-returns
-unfolding implementsRecords eachEdge edgeRule definedRule definedEdges undefinedEdge
-returns c = (emit-seq _ _ _ _ _ _ _ _ (c .before .before .before .before .before .before .before .validate-each-edge .ensures .0) (c .before .before .before .before .used .ensures) (c .before .before .validate-each-edge2 .ensures .0), omega (arith, c .before .before .before .before .before .before .before .validate-each-edge .ensures .1, c .before .before .validate-each-edge2 .ensures .1))
+unfolding implementsRecords eachEdge edgeRule definedEdge definedRule definedEdges
+returns c =
+    let at-validate-each-edge = c .before .before .before .before .before .before .before in
+    (emit-seq _ _ _ _ _ _ _ _ (at-validate-each-edge .validate-each-edge .ensures .0) (c .before .before .before .before .used .ensures) (c .before .before .validate-each-edge2 .ensures .0), omega (arith, at-validate-each-edge .validate-each-edge .ensures .1, c .before .before .validate-each-edge2 .ensures .1))
 
 pub validate-implements-interfaces-spec : {M : Type 1} → statement M
 validate-implements-interfaces-spec =

@@ -14,7 +14,7 @@ returns c = rw (fails (c .before .marked .ensures) (c .if1 .taken)) refl
 goes-out-requires : tie.Need-goes-out-requires
 goes-out-requires c κs =
     let pre = c .before .before .before .before .before .before .pre in
-    (pre .0, (pre .1, helps-none _ _ _ refl))
+    (record { rows = pre .0; helps = helps-none _ _ _ refl }, pre .1)
 
 returns-2 : tie.Need-returns-2
 unfolding rule5

@@ -10,6 +10,7 @@ use Rattle.names.proofs.BoolLaws.{passes, fails}
 use Rattle.table.specs.Layout.{fieldsStart}
 use Rattle.chains.specs.Fields.{chainGraph}
 use Rattle.evidence.specs.Rules.{falls, rule7}
+use Rattle.evidence.proofs.ChainLaws.{chained}
 use Rattle.judge.proofs.rule.rule7.Statement.{statement}
 use Rattle.judge.proofs.rule.rule7.Tie as tie
 
@@ -26,7 +27,7 @@ falls-requires : tie.Need-falls-requires Inv-loop μ-loop
 falls-requires c κs =
     let pre = c .before .before .before .before .before .before .pre in
     let args = c .before .before .before .before .before .before .args in
-    (pre .0, omega (arith, pre .0 .inside (args .t .0) (pre .1)))
+    (pre .0, omega (arith, chained (pre .0) .inside (args .t .0) (pre .1)))
 
 returns : tie.Need-returns Inv-loop μ-loop
 unfolding rule7

@@ -23,7 +23,7 @@ loop-holds c = (search needs, any-none _)
 comes-in-requires : tie.Need-comes-in-requires Inv-loop μ-loop
 comes-in-requires c κs =
     let pre = c .before .before .before .before .before .before .pre in
-    (pre, (c .before .if1 .taken, helps-none _ _ _ refl))
+    (record { rows = pre; helps = helps-none _ _ _ refl }, c .before .if1 .taken)
 
 returns : tie.Need-returns Inv-loop μ-loop
 returns c = sym (any-of _ _ _ (c .before .before .before .if1 .taken) (sym (c .before .comes-in .ensures) ∙ c .if2 .taken))

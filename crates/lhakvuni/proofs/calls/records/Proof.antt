@@ -3,8 +3,8 @@
 use borrow.Author.Needs.{needs}
 use mathlib.Core.Path.{sym}
 use native.Mathlib.Omega.{arith}
-use Rattle.table.specs.Sound.{Sound}
-use Rattle.table.proofs.AnswerLaws.{verdict-sound}
+use Rattle.wellformed.specs.Sound.{Sound}
+use Rattle.wellformed.proofs.AnswerLaws.{verdict-sound}
 use Rattle.rows.specs.Readable.{SoundRows}
 use Rattle.rows.proofs.PartLaws.{type-count}
 use Rattle.order.proofs.OrderLaws.{sound-apart}
@@ -24,83 +24,65 @@ sound c = verdict-sound _ _ _ (c .before .before .check-table .ensures .0) (c .e
 rows : (c : tie.After-layout-of) → SoundRows (entry (c .before) .args .words .now) (c .layout-of .result)
 rows c = sound-by (sound (c .before)) (c .layout-of .ensures .0)
 
-check-table-requires : tie.Need-check-table-requires
-check-table-requires c κs = search needs
-
-enum-known-n : tie.Need-enum-known-n
-enum-known-n c = search needs
-
 returns : tie.Need-returns
-returns c = records-table _ _ _ (c .before .before .before .check-table .ensures .0) _ _ (c .before .before .before .check-table .ensures .1) _ (c .before .n .given .1)
-
-enum-told : tie.Need-enum-told
-enum-told c = search needs
+returns c = records-table _ _ _ (c .before .before .before .check-table .ensures .0) _ _ (c .before .before .before .check-table .ensures .1) _ (c .before .refusal .given .1)
 
 layout-of-requires : tie.Need-layout-of-requires
 layout-of-requires c κs = header-there (sound c)
 
-mul-need : tie.Need-mul-need
-mul-need c = omega (arith, rows (c .before) .laid .types-most)
+size-requires : tie.Need-size-requires
+size-requires c κs = rows (c) .laid .types-most
 
 returns-2 : tie.Need-returns-2
 returns-2 c =
-    let d : tie.After-layout-of = c .before .before in
-    let v = d .before in
-    records-work _ _ _ (v .before .before .check-table .ensures .0) (v .enum-told .given .1) _ (d .layout-of .ensures .0) _ _ (c .if1 .taken)
+    let check-table = c .before .before .before .before .before .check-table in
+    records-work _ _ _ (check-table .ensures .0) (c .before .before .before .enum-told .given .1) _ (c .before .before .layout-of .ensures .0) _ _ (rw (c .before .size .ensures) at (c .if1 .taken))
 
 prepare-requires : tie.Need-prepare-requires
 prepare-requires c κs =
-    let d : tie.After-layout-of = c .before .before .before in
-    (rows d, (sound-apart (sound (d .before)), c .before .if1 .left))
+    (rows (c .before .before .before), (sound-apart (sound (c .before .before .before .before)), rw (c .before .before .size .ensures) at (c .before .if1 .left)))
 
 count-cycles-requires : tie.Need-count-cycles-requires
 count-cycles-requires c κs =
-    let p = c .before .before .before in
-    (rows (p .before .before .before .before), (p .prepare .ensures .settled, p .prepare .ensures .helped))
+    (c .before .before .before .prepare .ensures .helped, c .before .before .before .prepare .ensures .settled)
 
 write-records-requires : tie.Need-write-records-requires
 write-records-requires c κs =
-    let n = c .before .before .before .before in
-    let p = n .before .before .before .before in
-    let d : tie.After-layout-of = p .before .before .before .before in (
-      readable-by (sound (d .before)) (d .layout-of .ensures .0),
-      helped-same (p .prepare .ensures .helped) _ (n .count-cycles .ensures .size) (rw (sym (type-count _ _ (rows d .laid))) at (n .count-cycles .ensures .rest)),
+    let layout-of = c .before .before .before .before .before .before .before .before .before .before .before .before .layout-of in
+    let prepare = c .before .before .before .before .before .before .before .before .prepare in
+    let count-cycles = c .before .before .before .before .count-cycles in (
+      readable-by (sound (c .before .before .before .before .before .before .before .before .before .before .before .before .before)) (layout-of .ensures .0),
+      helped-same (prepare .ensures .helped) _ (count-cycles .ensures .size) (rw (sym (type-count _ _ (rows (c .before .before .before .before .before .before .before .before .before .before .before .before) .laid))) at (count-cycles .ensures .rest)),
     )
-
-clear-requires : tie.Need-clear-requires
-clear-requires c κs = search needs
-
-same-length : tie.Need-same-length
-same-length c = search needs
-
-same-length-2 : tie.Need-same-length-2
-same-length-2 c = search needs
 
 returns-3 : tie.Need-returns-3
 returns-3 c =
-    let w = c .before .before .before .before .before .before in
-    let n = w .before .before .before .before .before in
-    let p = n .before .before .before .before in
-    let d : tie.After-layout-of = p .before .before .before .before in
-    let v = d .before in
-    records-given _ _ _ (v .before .before .check-table .ensures .0) (v .enum-told .given .1) _ (d .layout-of .ensures .0)
-    _ _ _ _ _ _ _ (p .before .before .if1 .left) (p .prepare .ensures) (n .count-cycles .ensures) (w .write-records .ensures) (c .before .before .clear .ensures)
+    let check-table = c .before .before .before .before .before .before .before .before .before .before .before .before .before .before .before .before .before .before .before .before .before .before .check-table in
+    let enum-told = c .before .before .before .before .before .before .before .before .before .before .before .before .before .before .before .before .before .before .before .before .enum-told in
+    let layout-of = c .before .before .before .before .before .before .before .before .before .before .before .before .before .before .before .before .before .before .before .layout-of in
+    let size = c .before .before .before .before .before .before .before .before .before .before .before .before .before .before .before .before .before .before .size in
+    let if1 = c .before .before .before .before .before .before .before .before .before .before .before .before .before .before .before .before .before .if1 in
+    let prepare = c .before .before .before .before .before .before .before .before .before .before .before .before .before .before .before .prepare in
+    let count-cycles = c .before .before .before .before .before .before .before .before .before .before .before .count-cycles in
+    let write-records = c .before .before .before .before .before .before .write-records in
+    records-given _ _ _ (check-table .ensures .0) (enum-told .given .1) _ (layout-of .ensures .0)
+    _ _ _ _ _ _ _ (rw (size .ensures) at (if1 .left)) (prepare .ensures) (count-cycles .ensures) (write-records .ensures) (rw (size .ensures) at (c .before .before .clear .ensures))
 
 pub records-spec : {M : Type 1} → statement M
 records-spec =
     tie.close
     (tie.spec
-    check-table-requires
-    enum-known-n
+    (λ c κs. search needs)  -- check-table-requires
+    (λ c. search needs)  -- enum-known-refusal
     returns
-    enum-told
+    (λ c. search needs)  -- enum-told
     layout-of-requires
-    mul-need
+    size-requires
     returns-2
     prepare-requires
     count-cycles-requires
     write-records-requires
-    clear-requires
-    same-length
-    same-length-2
+    (λ c κs. search needs)  -- clear-requires
+    (λ c. search needs)  -- same-length
+    (λ c. search needs)  -- same-length-2
     returns-3)

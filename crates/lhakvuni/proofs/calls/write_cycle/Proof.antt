@@ -5,43 +5,31 @@ use Rattle.lhakvuni.proofs.OutputLaws.{cycle-short, cycle-done}
 use Rattle.lhakvuni.proofs.calls.write_cycle.Statement.{statement}
 use Rattle.lhakvuni.proofs.calls.write_cycle.Tie as tie
 
-count-cycle-requires : tie.Need-count-cycle-requires
-count-cycle-requires c κs = search needs
-
-same-length : tie.Need-same-length
-same-length c = search needs
-
 returns : tie.Need-returns
 returns c =
-    let n = c .before .before .before .count-cycle .ensures in
-    (cycle-short _ _ _ _ (n .0) (c .if1 .taken), n .1 .1)
+    (cycle-short _ _ _ _ (c .before .before .before .count-cycle .ensures .0) (c .if1 .taken), c .before .before .before .count-cycle .ensures .1 .1)
 
 first-cycle-requires : tie.Need-first-cycle-requires
 first-cycle-requires c κs =
-    let same = c .before .before .before .before .before .count-cycle .ensures .1 .1 in
-    let pre = c .before .before .before .before .before .before .before .before .before .before .pre in
-    (pre .0, (pre .1 .0, (rw same (pre .1 .1 .0), rw same (pre .1 .1 .1))))
-
-same-length-2 : tie.Need-same-length-2
-same-length-2 c = search needs
-
-same-length-3 : tie.Need-same-length-3
-same-length-3 c = search needs
+    let count-cycle = c .before .before .before .before .before .count-cycle in
+    let entry = c .before .before .before .before .before .before .before .before .before .before in
+    (rw (count-cycle .ensures .1 .1) (entry .pre .0), (entry .pre .1 .0, rw (count-cycle .ensures .1 .1) (entry .pre .1 .1)))
 
 returns-2 : tie.Need-returns-2
 returns-2 c =
-    let n = c .before .before .before .before .before .before .before .before .before .before .count-cycle .ensures in
-    let f = c .before .before .before .before .first-cycle .ensures in
-    (cycle-done _ _ _ _ (n .0) _ _ (c .before .before .before .before .before .before .before .if1 .left) (f .0), f .1 .1 ∙ n .1 .1)
+    let count-cycle = c .before .before .before .before .before .before .before .before .before .before .count-cycle in
+    let if1 = c .before .before .before .before .before .before .before .if1 in
+    let first-cycle = c .before .before .before .before .first-cycle in
+    (cycle-done _ _ _ _ (count-cycle .ensures .0) _ _ (if1 .left) (first-cycle .ensures .0), first-cycle .ensures .1 .1 ∙ count-cycle .ensures .1 .1)
 
 pub write-cycle-spec : {M : Type 1} → statement M
 write-cycle-spec =
     tie.close
     (tie.spec
-    count-cycle-requires
-    same-length
+    (λ c κs. search needs)  -- count-cycle-requires
+    (λ c. search needs)  -- same-length
     returns
     first-cycle-requires
-    same-length-2
-    same-length-3
+    (λ c. search needs)  -- same-length-2
+    (λ c. search needs)  -- same-length-3
     returns-2)

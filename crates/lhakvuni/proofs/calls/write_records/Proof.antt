@@ -27,8 +27,10 @@ same-length-2 c = search needs
 
 returns-2 : tie.Need-returns-2
 returns-2 c =
-    let n = c .before .before .before .before .before .before .before .count-records .ensures in
-    records-done _ _ _ _ _ (n .0) refl (n .1 .1) _ _ (c .before .before .before .before .if1 .left) (c .before .before .list-records .ensures .0)
+    let at-if1 = c .before .before .before .before in
+    let at-count-records = at-if1 .before .before .before in
+    let n = at-count-records .count-records .ensures in
+    records-done _ _ _ _ _ (n .0) refl (n .1 .1) _ _ (at-if1 .if1 .left) (c .before .before .list-records .ensures .0)
 
 pub write-records-spec : {M : Type 1} → statement M
 write-records-spec =

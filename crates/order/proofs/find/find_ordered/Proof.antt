@@ -3,6 +3,7 @@ use borrow.Author.Needs.{needs}
 use native.Mathlib.Omega.{arith}
 use mathlib.Core.Path.{sym, _∙_}
 use Prim.Native.Nat.{_<_}
+use borrow.Author.Tests.{eqb-true, eqb-false}
 use Rattle.order.proofs.LookupLaws.{nothing-behind, nothing-other, type-there}
 use Rattle.order.proofs.find.find_ordered.Statement.{statement}
 use Rattle.order.proofs.find.find_ordered.Tie as tie
@@ -11,7 +12,9 @@ rank-of-requires : tie.Need-rank-of-requires
 rank-of-requires c κs = search needs
 
 returns : tie.Need-returns
-returns c = nothing-behind (c .before .before .before .before .before .pre .0) (c .before .before .before .before .before .pre .1) (c .before .before .rank-of .ensures) (c .if1 .taken)
+returns c =
+    let entry = c .before .before .before .before .before in
+    nothing-behind (entry .pre .0) (entry .pre .1) (c .before .before .rank-of .ensures) (c .if1 .taken)
 
 mul-t8 : tie.Need-mul-t8
 mul-t8 c = search needs
@@ -21,25 +24,27 @@ shared-slice-read-t10 c = search needs
 
 type-name-requires : tie.Need-type-name-requires
 type-name-requires c κs =
-    let b : c .before .before .before .rank-of .result < c .before .before .before .before .before .before .args .l .types = omega arith in
-    (c .before .before .before .before .before .before .pre .0, c .before .before .before .before .before .before .pre .1 .rows _ b)
+    let entry = c .before .before .before .before .before .before in
+    let b : c .before .before .before .rank-of .result < entry .args .l .types = omega arith in
+    (entry .pre .0, entry .pre .1 .rows _ b)
+
+same-requires : tie.Need-same-requires
+same-requires c κs = search needs
 
 returns-2 : tie.Need-returns-2
 returns-2 c =
-    let b : c .before .before .before .before .before .before .before .rank-of .result < c .before .before .before .before .before .before .before .before .before .before .args .l .types = omega arith in
-    type-there (c .before .before .before .before .before .before .before .before .before .before .pre .0) (c .before .before .before .before .before .before .before .before .before .before .pre .1) (c .before .before .before .before .before .before .before .rank-of .ensures) b (sym (c .before .before .before .type-name .ensures) ∙ c .if2 .taken)
+    let rank-of = c .before .before .before .before .before .before .rank-of in
+    let entry = c .before .before .before .before .before .before .before .before .before in
+    let rank-of = rank-of in
+    let b : rank-of .result < entry .args .l .types = omega arith in
+    type-there (entry .pre .0) (entry .pre .1) (rank-of .ensures) b (eqb-true _ _ (rw (c .before .before .type-name .ensures) at (sym (c .before .same .ensures) ∙ c .if2 .taken)))
 
 returns-3 : tie.Need-returns-3
-returns-3 c = nothing-other (c .before .before .before .before .before .before .before .before .before .before .pre .0) (c .before .before .before .before .before .before .before .before .before .before .pre .1) (c .before .before .before .before .before .before .before .rank-of .ensures) (λ e. c .if2 .left (c .before .before .before .type-name .ensures ∙ e))
+returns-3 c =
+    let rank-of = c .before .before .before .before .before .before .rank-of in
+    let entry = c .before .before .before .before .before .before .before .before .before in
+    let rank-of = rank-of in
+    nothing-other (entry .pre .0) (entry .pre .1) (rank-of .ensures) (eqb-false _ _ (rw (c .before .before .type-name .ensures) at (sym (c .before .same .ensures) ∙ c .if2 .left)))
 
 pub find-ordered-spec : {M : Type 1} → statement M
-find-ordered-spec =
-    tie.close
-    (tie.spec
-    rank-of-requires
-    returns
-    mul-t8
-    shared-slice-read-t10
-    type-name-requires
-    returns-2
-    returns-3)
+find-ordered-spec = tie.close (tie.spec rank-of-requires returns mul-t8 shared-slice-read-t10 type-name-requires same-requires returns-2 returns-3)

@@ -17,9 +17,9 @@ shared-slice-read-t14 c = search needs
 
 type-name-requires : tie.Need-type-name-requires
 type-name-requires c κs =
-    let e = c .before .before .before .before in
-    let q : e .args .span .high < e .args .n = omega (arith, c .before .if1 .left, e .pre .1 .1 .1 .1) in
-    (e .pre .0, omega (arith, e .pre .1 .0 .rows _ q, e .pre .1 .1 .0))
+    let entry = c .before .before .before .before in
+    let q : entry .args .span .high < entry .args .n = omega (arith, c .before .if1 .left, entry .pre .1 .1 .1 .1) in
+    (entry .pre .0, omega (arith, entry .pre .1 .0 .rows _ q, entry .pre .1 .1 .0))
 
 returns-2 : tie.Need-returns-2
 returns-2 c = search needs
@@ -29,9 +29,9 @@ cast-at c = search needs
 
 mul-at : tie.Need-mul-at
 mul-at c =
-    let e = c .before .before .before .before .before .before .before in
-    let h : e .args .span .high ≤ 1024 = omega (arith, e .pre .1 .1 .1 .1, e .pre .1 .1 .0, e .pre .0 .types-most) in
-    let m = mul-le-mul-right (e .args .name .0) h in
+    let entry = c .before .before .before .before .before .before .before in
+    let h : entry .args .span .high ≤ 1024 = omega (arith, entry .pre .1 .1 .1 .1, entry .pre .1 .1 .0, entry .pre .0 .types-most) in
+    let m = mul-le-mul-right (entry .args .name .0) h in
     search needs
 
 cast-at-2 : tie.Need-cast-at-2

@@ -14,9 +14,8 @@ shared-slice-read-off c = search needs
 
 type-name-requires : tie.Need-type-name-requires
 type-name-requires c κs =
-    let e = c .before .before .before in
-    let q : e .args .at < e .args .n = omega (arith, e .pre .1 .1 .1 .1 .1, e .pre .1 .1 .1 .0 .within) in
-    (e .pre .0, omega (arith, e .pre .1 .0 .rows _ q, e .pre .1 .1 .0))
+    let q : c .before .before .before .args .at < c .before .before .before .args .n = omega (arith, c .before .before .before .pre .1 .1 .1 .1 .1, c .before .before .before .pre .1 .1 .1 .0 .within) in
+    (c .before .before .before .pre .0, omega (arith, c .before .before .before .pre .1 .0 .rows _ q, c .before .before .before .pre .1 .1 .0))
 
 sub-off : tie.Need-sub-off
 sub-off c = search needs
@@ -35,12 +34,10 @@ least-requires c κs = search needs
 
 returns : tie.Need-returns
 returns c =
-    let e = c .before .before .before .before .before .before .before .before in
-    let d = c .before .before .before .before in
-    let n = d .type-name .ensures in
-    let p = e .pre .1 .1 .1 in
-    let b = look-below (e .pre .1 .0) (p .0) _ (p .1 .0) (p .1 .1) (e .args .name .0 - d .type-name .result .0) (rw n at (c .before .before .if1 .taken)) (omega (arith, n)) in
-    (rw (c .least .ensures) b, omega (arith, c .least .ensures, p .1))
+    let entry = c .before .before .before .before .before .before .before .before in
+    let type-name = c .before .before .before .before .type-name in
+    let b = look-below (entry .pre .1 .0) (entry .pre .1 .1 .1 .0) _ (entry .pre .1 .1 .1 .1 .0) (entry .pre .1 .1 .1 .1 .1) (entry .args .name .0 - type-name .result .0) (rw (type-name .ensures) at (c .before .before .if1 .taken)) (omega (arith, (type-name .ensures))) in
+    (rw (c .least .ensures) b, omega (arith, c .least .ensures, entry .pre .1 .1 .1 .1))
 
 cast-off-2 : tie.Need-cast-off-2
 cast-off-2 c = search needs
@@ -56,12 +53,10 @@ most-requires c κs = search needs
 
 returns-2 : tie.Need-returns-2
 returns-2 c =
-    let e = c .before .before .before .before .before .before .before .before .before in
-    let d = c .before .before .before .before .before in
-    let n = d .type-name .ensures in
-    let p = e .pre .1 .1 .1 in
-    let b = look-above (e .pre .1 .0) (p .0) _ (p .1 .0) (p .1 .1) (d .type-name .result .0 - e .args .name .0) (rw n at (c .before .before .before .if1 .left)) (omega (arith, n)) in
-    (rw (c .most .ensures, c .before .least2 .ensures) b, omega (arith, c .most .ensures, p .1))
+    let entry = c .before .before .before .before .before .before .before .before .before in
+    let type-name = c .before .before .before .before .before .type-name in
+    let b = look-above (entry .pre .1 .0) (entry .pre .1 .1 .1 .0) _ (entry .pre .1 .1 .1 .1 .0) (entry .pre .1 .1 .1 .1 .1) (type-name .result .0 - entry .args .name .0) (rw (type-name .ensures) at (c .before .before .before .if1 .left)) (omega (arith, (type-name .ensures))) in
+    (rw (c .most .ensures, c .before .least2 .ensures) b, omega (arith, c .most .ensures, entry .pre .1 .1 .1 .1))
 
 pub narrow-spec : {M : Type 1} → statement M
 narrow-spec =

@@ -19,23 +19,21 @@ least-requires c κs = search needs
 
 narrow-requires : tie.Need-narrow-requires
 narrow-requires c κs =
-    let e = c .before .before .before .before .before in
-    let h = c .least .ensures in
-    let some = c .before .before .if1 .left in
-    (e .pre .0, (e .pre .1 .0, (e .pre .1 .1, (between-all _ _ _ _, (omega arith, omega (arith, h, some))))))
+    let entry = c .before .before .before .before .before in
+    (entry .pre .0, (entry .pre .1 .0, (entry .pre .1 .1, (between-all _ _ _ _, (omega arith, omega (arith, (c .least .ensures), (c .before .before .if1 .left)))))))
 
 returns-2 : tie.Need-returns-2
 returns-2 c = c .before .before .narrow .ensures .0
 
 guess-requires : tie.Need-guess-requires
 guess-requires c κs =
-    let e = c .before .before .before .before .before .before .before .before in
-    (e .pre .0, (e .pre .1 .0, (e .pre .1 .1, (c .if2 .left, c .before .before .narrow .ensures .0 .within))))
+    let entry = c .before .before .before .before .before .before .before .before in
+    (entry .pre .0, (entry .pre .1 .0, (entry .pre .1 .1, (c .if2 .left, c .before .before .narrow .ensures .0 .within))))
 
 narrow-requires-2 : tie.Need-narrow-requires-2
 narrow-requires-2 c κs =
-    let e = c .before .before .before .before .before .before .before .before .before in
-    (e .pre .0, (e .pre .1 .0, (e .pre .1 .1, (c .before .before .before .narrow .ensures .0, c .guess .ensures))))
+    let entry = c .before .before .before .before .before .before .before .before .before in
+    (entry .pre .0, (entry .pre .1 .0, (entry .pre .1 .1, (c .before .before .before .narrow .ensures .0, c .guess .ensures))))
 
 returns-3 : tie.Need-returns-3
 returns-3 c = c .narrow2 .ensures .0

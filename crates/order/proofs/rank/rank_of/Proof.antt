@@ -23,13 +23,16 @@ sub-middle : tie.Need-sub-middle Inv-loop μ-loop
 sub-middle c = search needs
 
 add-middle : tie.Need-add-middle Inv-loop μ-loop
-add-middle c = omega (arith, middle-of _ _ (c .before .before .if1 .taken), c .before .before .before .before .loop .inv .within, c .before .before .before .before .before .before .before .before .pre .1 .1, c .before .before .before .before .before .before .before .before .pre .0 .types-most)
+add-middle c =
+    let loop = c .before .before .before .before .loop in
+    let entry = c .before .before .before .before .before .before .before .before in
+    omega (arith, middle-of _ _ (c .before .before .if1 .taken), loop .inv .within, entry .pre .1 .1, entry .pre .0 .types-most)
 
 narrow-requires : tie.Need-narrow-requires Inv-loop μ-loop
 narrow-requires c κs =
-    let b = c .before .before .before .before in
-    let e = b .before .before .before .before in
-    (e .pre .0, (e .pre .1 .0, (e .pre .1 .1, (b .loop .inv, middle-of _ _ (c .before .before .if1 .taken)))))
+    let entry = c .before .before .before .before .before .before .before .before in
+    let loop = c .before .before .before .before .loop in
+    (entry .pre .0, (entry .pre .1 .0, (entry .pre .1 .1, (loop .inv, middle-of _ _ (c .before .before .if1 .taken)))))
 
 loop-less : tie.Need-loop-less Inv-loop μ-loop
 loop-less c = c .narrow .ensures .1

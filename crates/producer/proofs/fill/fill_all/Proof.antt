@@ -6,16 +6,25 @@ use Rattle.producer.proofs.fill.fill_all.Tie as tie
 
 fill-levels-requires : tie.Need-fill-levels-requires
 fill-levels-requires c κs =
-    let first = c .before .before .before .before .before .before .fill-leaders .ensures in
-    (filling-after (c .before .before .before .before .before .before .before .before .before .before .before .before .pre) first, first .right)
+    let fill-leaders = c .before .before .before .before .before .before .fill-leaders in
+    let entry = c .before .before .before .before .before .before .before .before .before .before .before .before in
+    let first = fill-leaders .ensures in
+    (filling-after (entry .pre) first, first .right)
 
 fill-fields-requires : tie.Need-fill-fields-requires
 fill-fields-requires c κs =
-    let second = c .before .before .before .before .before .before .fill-levels .ensures in
-    (filling-after (filling-after (c .before .before .before .before .before .before .before .before .before .before .before .before .before .before .before .before .before .before .before .pre) (c .before .before .before .before .before .before .before .before .before .before .before .before .before .fill-leaders .ensures)) second, second .right)
+    let fill-levels = c .before .before .before .before .before .before .fill-levels in
+    let entry = c .before .before .before .before .before .before .before .before .before .before .before .before .before .before .before .before .before .before .before in
+    let fill-leaders = c .before .before .before .before .before .before .before .before .before .before .before .before .before .fill-leaders in
+    let second = fill-levels .ensures in
+    (filling-after (filling-after (entry .pre) (fill-leaders .ensures)) second, second .right)
 
 returns : tie.Need-returns
-returns c = passed-join (c .before .before .before .before .before .before .before .before .before .before .before .before .before .before .before .before .before .before .fill-leaders .ensures) (passed-join (c .before .before .before .before .before .before .before .before .before .before .before .fill-levels .ensures) (c .before .before .before .before .fill-fields .ensures))
+returns c =
+    let fill-leaders = c .before .before .before .before .before .before .before .before .before .before .before .before .before .before .before .before .before .before .fill-leaders in
+    let fill-levels = c .before .before .before .before .before .before .before .before .before .before .before .fill-levels in
+    let fill-fields = c .before .before .before .before .fill-fields in
+    passed-join (fill-leaders .ensures) (passed-join (fill-levels .ensures) (fill-fields .ensures))
 
 pub fill-all-spec : {M : Type 1} → statement M
 fill-all-spec =

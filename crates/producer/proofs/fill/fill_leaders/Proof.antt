@@ -7,23 +7,27 @@ use Rattle.producer.proofs.fill.fill_leaders.Tie as tie
 
 fill-requires-2 : tie.Need-fill-requires-2
 fill-requires-2 c κs =
-    let pre = c .before .before .before .before .before .before .before .before .before .before .before .before .pre in
-    let fill-call = c .before .before .before .before .before .before .fill in
-    let args = c .before .before .before .before .before .before .before .before .before .before .before .before .args in
-    (filling-next (pre) (fill-call .ensures .0) (fill-call .ensures .1), numbered (chainGraph (args .words .now)) (fill-call .ensures .0))
+    let entry = c .before .before .before .before .before .before .before .before .before .before .before .before in
+    let fill = c .before .before .before .before .before .before .fill in
+    (filling-next (entry .pre) (fill .ensures .0) (fill .ensures .1), (numbered (chainGraph (entry .args .words .now)) (fill .ensures .0), tt))
 
 returns : tie.Need-returns
 returns c =
-    let args = c .before .before .before .before .before .before .before .before .before .before .before .before .before .before .before .before .before .args in
-    let fill-call = c .before .before .before .before .before .before .before .before .before .before .before .fill in
-    let fill2-call = c .before .before .before .before .fill2 in
-    ranked (chainGraph (args .words .now)) (fill-call .ensures .0) (fill2-call .ensures .0) (fill-call .ensures .1) (fill2-call .ensures .1)
+    let entry = c .before .before .before .before .before .before .before .before .before .before .before .before .before .before .before .before .before in
+    let fill = c .before .before .before .before .before .before .before .before .before .before .before .fill in
+    let fill2 = c .before .before .before .before .fill2 in
+    ranked (chainGraph (entry .args .words .now)) (fill .ensures .0) (fill2 .ensures .0) (fill .ensures .1) (fill2 .ensures .1)
+
+fill-requires : tie.Need-fill-requires
+fill-requires c κs =
+    let entry = c .before .before .before .before .before in
+    (entry .pre, tt)
 
 pub fill-leaders-spec : {M : Type 1} → statement M
 fill-leaders-spec =
     tie.close
     (tie.spec
-    (λ c κs. search needs)  -- fill-requires
+    fill-requires
     fill-requires-2
     (λ c. search needs)  -- same-length
     (λ c. search needs)  -- same-length-2

@@ -9,6 +9,7 @@ use Rattle.names.proofs.BoolLaws.{fails, true-false}
 use Rattle.table.specs.Layout.{fieldsStart}
 use Rattle.chains.specs.Fields.{chainsEnd, chainGraph}
 use Rattle.evidence.specs.Rules.{comesIn}
+use Rattle.evidence.proofs.ChainLaws.{chained}
 use Rattle.producer.proofs.ChoiceLaws.{comes-before, from-far, from-first, from-none}
 use Rattle.producer.proofs.fitting.in_from.Statement.{statement}
 use Rattle.producer.proofs.fitting.in_from.Tie as tie
@@ -21,38 +22,34 @@ abbrev μ-loop : tie.MeasureT-loop
 
 returns : tie.Need-returns Inv-loop μ-loop
 returns c =
-    let args = c .before .before .before .before .before .args in
-    from-far (chainGraph (args .words .now)) (args .out .now) (args .t .0) (args .s .0) (fails (c .before .nearer .ensures) (c .if1 .taken))
+    let entry = c .before .before .before .before .before in
+    from-far (chainGraph (entry .args .words .now)) (entry .args .out .now) (entry .args .t .0) (entry .args .s .0) (fails (c .before .nearer .ensures) (c .if1 .taken))
 
 loop-holds : tie.Need-loop-holds Inv-loop μ-loop
 loop-holds c =
-    let args = c .before .before .before .before .before .before .before .args in
+    let entry = c .before .before .before .before .before .before .before in
     let e = c .fields-start .ensures in
-    (omega arith, λ h b. comes-before (chainGraph (args .words .now)) (args .out .now) (args .t .0) (args .s .0) h (omega arith))
+    (omega arith, λ h b. comes-before (chainGraph (entry .args .words .now)) (entry .args .out .now) (entry .args .t .0) (entry .args .s .0) h (omega arith))
 
-cast-result : tie.Need-cast-result Inv-loop μ-loop
-cast-result c =
-    let pre = c .before .before .before .before .before .before .before .before .before .before .before .pre in
-    let args = c .before .before .before .before .before .before .before .before .before .before .before .args in
-    omega (arith, pre .0 .inside (args .s .0) (pre .1 .0))
+cast-t13 : tie.Need-cast-t13 Inv-loop μ-loop
+cast-t13 c =
+    let entry = c .before .before .before .before .before .before .before .before .before .before .before in
+    omega (arith, chained (entry .pre .0 .rows) .inside (entry .args .s .0) (entry .pre .1))
 
 returns-2 : tie.Need-returns-2 Inv-loop μ-loop
 returns-2 c =
-    let args = c .before .before .before .before .before .before .before .before .before .before .before .args in
-    let loop = c .before .before .before .loop in
-    let pre = c .before .before .before .before .before .before .before .before .before .before .before .pre in
-    from-first (chainGraph (args .words .now)) (args .out .now) (args .t .0) (args .s .0) (loop .f) (omega (arith, pre .0 .inside (args .s .0) (pre .1 .0))) (sym (c .before .comes-in .ensures) ∙ c .if2 .taken) (loop .inv .1)
+    let entry = c .before .before .before .before .before .before .before .before .before .before .before in
+    from-first (chainGraph (entry .args .words .now)) (entry .args .out .now) (entry .args .t .0) (entry .args .s .0) (c .before .before .before .loop .f) (omega (arith, chained (entry .pre .0 .rows) .inside (entry .args .s .0) (entry .pre .1))) (sym (c .before .comes-in .ensures) ∙ c .if2 .taken) (c .before .before .before .loop .inv .1)
 
 loop-again : tie.Need-loop-again Inv-loop μ-loop
 loop-again c =
-    let loop = c .before .before .before .loop in
-    (search needs, below-more _ (loop .f) (loop .inv .1) (λ q. true-false q (sym (c .before .comes-in .ensures) ∙ c .if2 .left)))
+    (search needs, below-more _ (c .before .before .before .loop .f) (c .before .before .before .loop .inv .1) (λ q. true-false q (sym (c .before .comes-in .ensures) ∙ c .if2 .left)))
 
 returns-3 : tie.Need-returns-3 Inv-loop μ-loop
 returns-3 c =
-    let args = c .before .before .before .before .before .before .before .before .before .args in
-    let b : chainsEnd (args .words .now) (args .s .0) ≤ c .before .loop .f = omega arith in
-    from-none (chainGraph (args .words .now)) (args .out .now) (args .t .0) (args .s .0) (c .before .loop .f) b (c .before .loop .inv .1)
+    let entry = c .before .before .before .before .before .before .before .before .before in
+    let b : chainsEnd (entry .args .words .now) (entry .args .s .0) ≤ c .before .loop .f = omega arith in
+    from-none (chainGraph (entry .args .words .now)) (entry .args .out .now) (entry .args .t .0) (entry .args .s .0) (c .before .loop .f) b (c .before .loop .inv .1)
 
 pub in-from-spec : {M : Type 1} → statement M
 in-from-spec =
@@ -66,7 +63,7 @@ in-from-spec =
     (λ c κs. search needs)  -- fields-start-requires
     loop-holds
     (λ c κs. search needs)  -- comes-in-requires
-    cast-result
+    cast-t13
     returns-2
     (λ c. search needs)  -- add-f
     (λ c. search needs)  -- loop-less

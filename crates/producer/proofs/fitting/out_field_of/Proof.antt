@@ -10,7 +10,8 @@ use Rattle.table.specs.Layout.{none, typeCount, fieldsStart}
 use Rattle.chains.specs.Fields.{chainsEnd, chainGraph}
 use Rattle.evidence.specs.Rules.{goesOut}
 use Rattle.evidence.proofs.Kept.{marked-at, unmarked-at}
-use Rattle.producer.specs.Produced.{Word.unmarked}
+use Rattle.evidence.proofs.ChainLaws.{chained}
+use Rattle.producer.specs.Produced.{IfMarked.unmarked}
 use Rattle.producer.proofs.ChoiceLaws.{out-before, out-first, out-never}
 use Rattle.producer.proofs.fitting.out_field_of.Statement.{statement}
 use Rattle.producer.proofs.fitting.out_field_of.Tie as tie
@@ -23,43 +24,39 @@ abbrev μ-loop : tie.MeasureT-loop
 
 returns : tie.Need-returns Inv-loop μ-loop
 returns c =
-    let args = c .before .before .before .before .before .args in
-    unmarked (unmarked-at (args .out .now) (args .t .0) (fails (c .before .marked .ensures) (c .if1 .taken)))
+    let entry = c .before .before .before .before .before in
+    unmarked (unmarked-at (entry .args .out .now) (entry .args .t .0) (fails (c .before .marked .ensures) (c .if1 .taken)))
 
 loop-holds : tie.Need-loop-holds Inv-loop μ-loop
 loop-holds c =
-    let args = c .before .before .before .before .before .before .before .args in
+    let entry = c .before .before .before .before .before .before .before in
     let e = c .fields-start .ensures in
-    (omega arith, λ h b. out-before (chainGraph (args .words .now)) (args .out .now) (args .t .0) h (omega arith))
+    (omega arith, λ h b. out-before (chainGraph (entry .args .words .now)) (entry .args .out .now) (entry .args .t .0) h (omega arith))
 
-cast-result : tie.Need-cast-result Inv-loop μ-loop
-cast-result c =
-    let pre = c .before .before .before .before .before .before .before .before .before .before .before .pre in
-    let args = c .before .before .before .before .before .before .before .before .before .before .before .args in
-    omega (arith, pre .0 .inside (args .t .0) (pre .1 .0))
+cast-t12 : tie.Need-cast-t12 Inv-loop μ-loop
+cast-t12 c =
+    let entry = c .before .before .before .before .before .before .before .before .before .before .before in
+    omega (arith, chained (entry .pre .0 .rows) .inside (entry .args .t .0) (entry .pre .1 .0))
 
 returns-2 : tie.Need-returns-2 Inv-loop μ-loop
 returns-2 c =
-    let args = c .before .before .before .before .before .before .before .before .before .before .before .args in
-    let loop = c .before .before .before .loop in
-    let marked-call = c .before .before .before .before .before .before .before .marked in
+    let entry = c .before .before .before .before .before .before .before .before .before .before .before in
+    let marked = c .before .before .before .before .before .before .before .marked in
     let if1 = c .before .before .before .before .before .before .if1 in
-    out-first (chainGraph (args .words .now)) (args .out .now) (args .t .0) (loop .f) (marked-at (args .out .now) (args .t .0) (passes (marked-call .ensures) (if1 .left))) (sym (c .before .goes-out .ensures) ∙ c .if2 .taken) (loop .inv .1)
+    out-first (chainGraph (entry .args .words .now)) (entry .args .out .now) (entry .args .t .0) (c .before .before .before .loop .f) (marked-at (entry .args .out .now) (entry .args .t .0) (passes (marked .ensures) (if1 .left))) (sym (c .before .goes-out .ensures) ∙ c .if2 .taken) (c .before .before .before .loop .inv .1)
 
 loop-again : tie.Need-loop-again Inv-loop μ-loop
 loop-again c =
-    let loop = c .before .before .before .loop in
-    (search needs, below-more _ (loop .f) (loop .inv .1) (λ q. true-false q (sym (c .before .goes-out .ensures) ∙ c .if2 .left)))
+    (search needs, below-more _ (c .before .before .before .loop .f) (c .before .before .before .loop .inv .1) (λ q. true-false q (sym (c .before .goes-out .ensures) ∙ c .if2 .left)))
 
 returns-3 : tie.Need-returns-3 Inv-loop μ-loop
 returns-3 c =
-    let args = c .before .before .before .before .before .before .before .before .before .args in
-    let pre = c .before .before .before .before .before .before .before .before .before .pre in
-    let marked-call = c .before .before .before .before .before .marked in
+    let entry = c .before .before .before .before .before .before .before .before .before in
+    let marked = c .before .before .before .before .before .marked in
     let if1 = c .before .before .before .before .if1 in
-    let b : chainsEnd (args .words .now) (args .t .0) ≤ c .before .loop .f = omega arith in
-    let few : typeCount (args .words .now) ≤ none = omega (arith, pre .0 .types, pre .0 .types-few) in
-    absurd (out-never (chainGraph (args .words .now)) few (args .out .now) (pre .1 .1 .0) (args .t .0) (c .before .loop .f) (rw (pre .0 .types) at (pre .1 .0)) (marked-at (args .out .now) (args .t .0) (passes (marked-call .ensures) (if1 .left))) b (c .before .loop .inv .1))
+    let b : chainsEnd (entry .args .words .now) (entry .args .t .0) ≤ c .before .loop .f = omega arith in
+    let few : typeCount (entry .args .words .now) ≤ none = omega (arith, chained (entry .pre .0 .rows) .types, chained (entry .pre .0 .rows) .types-few) in
+    absurd (out-never (chainGraph (entry .args .words .now)) few (entry .args .out .now) (entry .pre .1 .1) (entry .args .t .0) (c .before .loop .f) (rw (chained (entry .pre .0 .rows) .types) at (entry .pre .1 .0)) (marked-at (entry .args .out .now) (entry .args .t .0) (passes (marked .ensures) (if1 .left))) b (c .before .loop .inv .1))
 
 pub out-field-of-spec : {M : Type 1} → statement M
 out-field-of-spec =
@@ -73,7 +70,7 @@ out-field-of-spec =
     (λ c κs. search needs)  -- fields-start-requires
     loop-holds
     (λ c κs. search needs)  -- goes-out-requires
-    cast-result
+    cast-t12
     returns-2
     (λ c. search needs)  -- add-f
     (λ c. search needs)  -- loop-less

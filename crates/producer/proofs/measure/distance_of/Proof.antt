@@ -1,51 +1,57 @@
 -- `distance_of`: a search from t meets its leader at the distance.
 use borrow.Author.Needs.{needs}
+use borrow.Author.Tests.{eqb-true, eqb-false}
 use mathlib.Core.Path.{sym, _∙_}
+use Rattle.names.proofs.BoolLaws.{passes, fails}
+use Rattle.evidence.proofs.Kept.{marked-at, unmarked-at}
 use Rattle.chains.specs.Fields.{chainGraph}
-use Rattle.producer.specs.Produced.{Word.unmarked}
+use Rattle.producer.specs.Produced.{IfMarked.unmarked}
+use Rattle.producer.proofs.Lookups.{facts}
 use Rattle.producer.proofs.PassLaws.{distance-itself, distance-level, leader-type, cleared-refl}
 use Rattle.producer.proofs.measure.distance_of.Statement.{statement}
 use Rattle.producer.proofs.measure.distance_of.Tie as tie
 
 returns : tie.Need-returns
 returns c =
-    let leader-call = c .before .before .before .leader in
-    let pre = c .before .before .before .before .before .before .before .pre in
-    (unmarked (sym (leader-call .ensures) ∙ c .if1 .taken), cleared-refl (pre .0 .clear))
+    let entry = c .before .before .before .before .before in
+    (unmarked (unmarked-at (entry .args .out .now) (entry .args .t .0) (fails (c .before .marked .ensures) (c .if1 .taken))), cleared-refl (entry .pre .0 .clear))
 
 returns-2 : tie.Need-returns-2
 returns-2 c =
-    let args = c .before .before .before .before .before .before .before .before .before .before .args in
-    let if1 = c .before .before .before .if1 in
-    let leader-call = c .before .before .before .before .before .before .leader in
-    let pre = c .before .before .before .before .before .before .before .before .before .before .pre in
-    (distance-itself (chainGraph (args .words .now)) (args .out .now) (args .t .0) (λ e. if1 .left (leader-call .ensures ∙ e)) (sym (leader-call .ensures) ∙ c .if2 .taken), cleared-refl (pre .0 .clear))
+    let entry = c .before .before .before .before .before .before .before in
+    let n = marked-at (entry .args .out .now) (entry .args .t .0) (passes (c .before .before .before .marked .ensures) (c .before .before .if1 .left)) in
+    (distance-itself (chainGraph (entry .args .words .now)) (entry .args .out .now) (entry .args .t .0) n (eqb-true _ _ (sym (c .before .leads .ensures) ∙ c .if2 .taken)), cleared-refl (entry .pre .0 .clear))
 
 level-requires : tie.Need-level-requires
 level-requires c κs =
-    let pre = c .before .before .before .before .before .before .before .before .before .before .before .pre in
-    let args = c .before .before .before .before .before .before .before .before .before .before .before .args in
-    let leader-call = c .before .before .before .before .before .before .before .leader in
+    let entry = c .before .before .before .before .before .before .before .before .before in
+    let marked = c .before .before .before .before .before .marked in
     let if1 = c .before .before .before .before .if1 in
-    let e = pre .0 .chained .types in
-    (pre .0, rw e (leader-type (chainGraph (args .words .now)) (args .out .now) (args .t .0) (pre .1 (args .t .0) (rw e at (pre .0 .low))) (leader-call .ensures) (if1 .left)))
+    let e = facts (entry .pre .0 .help) .types in
+    let n = marked-at (entry .args .out .now) (entry .args .t .0) (passes (marked .ensures) (if1 .left)) in
+    (entry .pre .0, rw e (leader-type (chainGraph (entry .args .words .now)) (entry .args .out .now) (entry .args .t .0) (entry .pre .1 (entry .args .t .0) (rw e at (entry .pre .0 .low))) (c .before .leader .ensures) n))
 
 returns-3 : tie.Need-returns-3
 returns-3 c =
-    let args = c .before .before .before .before .before .before .before .before .before .before .before .before .before .before .args in
-    let pre = c .before .before .before .before .before .before .before .before .before .before .before .before .before .before .pre in
-    let leader-call = c .before .before .before .before .before .before .before .before .before .before .leader in
+    let entry = c .before .before .before .before .before .before .before .before .before .before .before .before in
+    let marked = c .before .before .before .before .before .before .before .before .marked in
     let if1 = c .before .before .before .before .before .before .before .if1 in
-    let if2 = c .before .before .before .before .if2 in
-    (distance-level (chainGraph (args .words .now)) (args .out .now) (args .t .0) (pre .1 (args .t .0) (rw (pre .0 .chained .types) at (pre .0 .low))) (leader-call .ensures) (if1 .left) (if2 .left) (c .before .before .level .ensures .0), c .before .before .level .ensures .1)
+    let leader = c .before .before .before .before .leader in
+    let leads = c .before .before .before .before .before .before .leads in
+    let if2 = c .before .before .before .before .before .if2 in
+    let e = facts (entry .pre .0 .help) .types in
+    let n = marked-at (entry .args .out .now) (entry .args .t .0) (passes (marked .ensures) (if1 .left)) in
+    (distance-level (chainGraph (entry .args .words .now)) (entry .args .out .now) (entry .args .t .0) (entry .pre .1 (entry .args .t .0) (rw e at (entry .pre .0 .low))) (leader .ensures) n (eqb-false _ _ (sym (leads .ensures) ∙ if2 .left)) (c .before .before .level .ensures .0), c .before .before .level .ensures .1)
 
 pub distance-of-spec : {M : Type 1} → statement M
 distance-of-spec =
     tie.close
     (tie.spec
-    (λ c κs. search needs)  -- leader-requires
+    (λ c κs. search needs)  -- marked-requires
     returns
+    (λ c κs. search needs)  -- leads-requires
     returns-2
+    (λ c κs. search needs)  -- leader-requires
     level-requires
     (λ c. search needs)  -- same-length
     returns-3)

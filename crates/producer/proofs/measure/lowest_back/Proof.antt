@@ -25,9 +25,9 @@ loop-holds c = (search needs, λ s l. absurd (omega arith))
 returns-2 : tie.Need-returns-2 Inv-loop μ-loop
 returns-2 c =
     let loop = c .before .before .before .before .loop in
-    let reaches-back-call = c .before .before .before .before .before .before .reaches-back in
+    let reaches-back = c .before .before .before .before .before .before .reaches-back in
     let if1 = c .before .before .before .before .before .if1 in
-    first {u = loop .u} (omega arith) (passes (reaches-back-call .ensures) (if1 .left)) (sym (c .before .reaches-back2 .ensures) ∙ c .if3 .taken) (loop .inv .1)
+    first {u = loop .u} (omega arith) (passes (reaches-back .ensures) (if1 .left)) (sym (c .before .reaches-back2 .ensures) ∙ c .if3 .taken) (loop .inv .1)
 
 loop-again : tie.Need-loop-again Inv-loop μ-loop
 loop-again c =
@@ -36,11 +36,10 @@ loop-again c =
 
 returns-3 : tie.Need-returns-3 Inv-loop μ-loop
 returns-3 c =
-    let reaches-back-call = c .before .before .before .before .reaches-back in
-    let if1 = c .before .before .before .if1 in
-    let args = c .before .before .before .before .before .before .before .args in
-    let k = passes (reaches-back-call .ensures) (if1 .left) in
-    first {u = args .t .0} (omega arith) k k (λ s b. c .before .before .loop .inv .1 s (omega arith))
+    let reaches-back = c .before .before .before .before .reaches-back in
+    let entry = c .before .before .before .before .before .before .before in
+    let k = passes (reaches-back .ensures) (c .before .before .before .if1 .left) in
+    first {u = entry .args .t .0} (omega arith) k k (λ s b. c .before .before .loop .inv .1 s (omega arith))
 
 pub lowest-back-spec : {M : Type 1} → statement M
 lowest-back-spec =

@@ -7,87 +7,92 @@ use Prim.Native.Nat.{_+_, _≤_, _-_}
 use Rattle.chains.specs.Fields.{chainGraph}
 use Rattle.evidence.proofs.Counts.{count-low}
 use Rattle.producer.proofs.Levels.{Searching, searching-first, searching-more, searched}
-use Rattle.producer.proofs.Lookups.{helped-kept}
+use Rattle.producer.proofs.Lookups.{facts, helped-kept}
 use Rattle.producer.proofs.Reach.{listed-none}
 use Rattle.producer.proofs.search.search.Statement.{statement}
 use Rattle.producer.proofs.search.search.Tie as tie
 
 abbrev Inv-loop : tie.InvT-loop
-Inv-loop words l work₀ types from n₀ head₀ work n head = (n ≤ l .types) × (head ≤ n) × Searching (chainGraph words) from work₀ head work n
+Inv-loop words l work₀ list from n₀ head₀ work n head = (n ≤ l .types) × (head ≤ n) × Searching (chainGraph words) from work₀ head work n
 
 abbrev μ-loop : tie.MeasureT-loop
-μ-loop words l work₀ types from n₀ head₀ work n head = l .types - head
+μ-loop words l work₀ list from n₀ head₀ work n head = l .types - head
 
 visit-requires : tie.Need-visit-requires Inv-loop μ-loop
 visit-requires c κs =
-    let pre = c .before .before .before .pre in
-    (pre .chained, (pre .low, record { listed = listed-none _ _ (pre .clear .room) (λ u l. pre .clear .zero u (omega arith)); some = omega arith; help = pre .help }))
+    let entry = c .before .before .before .before in
+    (entry .pre .low, record { listed = listed-none _ _ (entry .pre .clear .room) (λ u l. entry .pre .clear .zero u (omega arith)); some = omega arith; help = entry .pre .help })
 
 loop-holds : tie.Need-loop-holds Inv-loop μ-loop
 loop-holds c =
-    let args = c .before .before .before .before .before .before .args in
-    let pre = c .before .before .before .before .before .before .pre in
+    let entry = c .before .before .before .before .before .before .before in
     let k = count-low (c .before .before .visit .ensures .grown .listed .count) in
-    (omega arith, omega arith, searching-first (chainGraph (args .words .now)) (λ u l. pre .clear .zero u (omega arith)) (c .before .before .visit .ensures))
+    (omega (arith, facts (entry .pre .help) .types), omega arith, searching-first (chainGraph (entry .args .words .now)) (λ u l. entry .pre .clear .zero u (omega arith)) (c .before .before .visit .ensures))
 
 slice-read-s : tie.Need-slice-read-s Inv-loop μ-loop
-slice-read-s c = let r = c .before .before .loop .inv .2 .listed .room in omega arith
+slice-read-s c =
+    let counts-at = c .before .before .before .before .before .before .before .counts-at in
+    let entry = c .before .before .before .before .before .before .before .before .before .before in
+    let r = c .before .before .loop .inv .2 .listed .room in omega (arith, counts-at .ensures, facts (entry .pre .help) .types)
 
 cast-level : tie.Need-cast-level Inv-loop μ-loop
 cast-level c =
-    let args = c .before .before .before .before .before .before .before .before .before .args in
-    omega (arith, c .slice-known3 .given (args .l .types + c .before .before .loop .head))
+    let counts-at = c .before .before .before .before .before .before .before .counts-at in
+    omega (arith, c .slice-known3 .given (counts-at .result + c .before .before .loop .head))
 
 mul-level : tie.Need-mul-level Inv-loop μ-loop
 mul-level c =
-    let args = c .before .before .before .before .before .before .before .before .before .args in
-    omega (arith, c .slice-known3 .given (args .l .types + c .before .before .loop .head))
+    let counts-at = c .before .before .before .before .before .before .before .counts-at in
+    omega (arith, c .slice-known3 .given (counts-at .result + c .before .before .loop .head))
 
 slice-read-level : tie.Need-slice-read-level Inv-loop μ-loop
 slice-read-level c =
-    let loop = c .before .before .before .loop in
-    let pre = c .before .before .before .before .before .before .before .before .before .before .pre in
-    let b = loop .inv .2 .listed .types-only (loop .head) (c .before .before .loop-test .taken) in
-    let r = loop .inv .2 .listed .room in
-    rw (pre .chained .types) (omega arith)
+    let counts-at = c .before .before .before .before .before .before .before .before .counts-at in
+    let entry = c .before .before .before .before .before .before .before .before .before .before .before in
+    let b = c .before .before .before .loop .inv .2 .listed .types-only (c .before .before .before .loop .head) (c .before .before .loop-test .taken) in
+    let r = c .before .before .before .loop .inv .2 .listed .room in
+    rw (counts-at .ensures ∙ facts (entry .pre .help) .types) (omega arith)
 
 add-visit : tie.Need-add-visit Inv-loop μ-loop
 add-visit c =
-    let loop = c .before .before .before .loop in
-    let pre = c .before .before .before .before .before .before .before .before .before .before .pre in
-    let b = loop .inv .2 .small (loop .head) (c .before .before .loop-test .taken) in
-    rw (pre .chained .types) (omega arith)
+    let counts-at = c .before .before .before .before .before .before .before .before .counts-at in
+    let entry = c .before .before .before .before .before .before .before .before .before .before .before in
+    let b = c .before .before .before .loop .inv .2 .small (c .before .before .before .loop .head) (c .before .before .loop-test .taken) in
+    rw (counts-at .ensures ∙ facts (entry .pre .help) .types) (omega arith)
 
 visit-requires-2 : tie.Need-visit-requires-2 Inv-loop μ-loop
 visit-requires-2 c κs =
-    let pre = c .before .before .before .before .before .before .before .before .before .before .before .pre in
     let loop = c .before .before .before .before .loop in
-    let test = c .before .before .before .loop-test in
-    (pre .chained, (let b = loop .inv .2 .listed .types-only (loop .head) (test .taken) in rw (pre .chained .types) (omega arith), record { listed = loop .inv .2 .listed; some = omega arith; help = helped-kept (pre .chained .types) (pre .help) _ (loop .inv .2 .size ∙ c .before .before .before .before .before .before .before .visit .ensures .grown .size) (loop .inv .2 .rest ∙ c .before .before .before .before .before .before .before .visit .ensures .grown .rest) }))
+    let counts-at = c .before .before .before .before .before .before .before .before .before .counts-at in
+    let entry = c .before .before .before .before .before .before .before .before .before .before .before .before in
+    let visit = c .before .before .before .before .before .before .before .visit in
+    let b = loop .inv .2 .listed .types-only (loop .head) (c .before .before .before .loop-test .taken) in
+    let e = counts-at .ensures ∙ facts (entry .pre .help) .types in
+    (rw e (omega (arith, facts (entry .pre .help) .types)), record { listed = loop .inv .2 .listed; some = omega arith; help = helped-kept (entry .pre .help) _ (loop .inv .2 .size ∙ visit .ensures .grown .size) (loop .inv .2 .rest ∙ visit .ensures .grown .rest) })
 
 loop-again : tie.Need-loop-again Inv-loop μ-loop
 loop-again c =
-    let pre = c .before .before .before .before .before .before .before .before .before .before .before .before .before .before .pre in
-    let test = c .before .before .before .before .before .before .loop-test in
-    let args = c .before .before .before .before .before .before .before .before .before .before .before .before .before .before .args in
+    let counts-at = c .before .before .before .before .before .before .before .before .before .before .before .before .counts-at in
+    let entry = c .before .before .before .before .before .before .before .before .before .before .before .before .before .before .before in
+    let loop-test = c .before .before .before .before .before .before .loop-test in
     let loop = c .before .before .before .before .before .before .before .loop in
-    let v = rw (pre .chained .types) at (c .before .before .visit2 .ensures) in
+    let v = rw (counts-at .ensures ∙ facts (entry .pre .help) .types) at (c .before .before .visit2 .ensures) in
     let m = v .grown .more in
-    let l = test .taken in
+    let l = loop-test .taken in
     let k = count-low (v .grown .listed .count) in
-    (omega arith, omega arith, rw add-one (searching-more (chainGraph (args .words .now)) (test .taken) (loop .inv .2) v))
+    (omega (arith, facts (entry .pre .help) .types), omega arith, rw add-one (searching-more (chainGraph (entry .args .words .now)) (loop-test .taken) (loop .inv .2) v))
 
 same-length : tie.Need-same-length Inv-loop μ-loop
 same-length c =
-    let visit-call = c .before .before .before .before .visit in
-    c .before .loop .inv .2 .size ∙ visit-call .ensures .grown .size
+    let visit = c .before .before .before .before .visit in
+    c .before .loop .inv .2 .size ∙ visit .ensures .grown .size
 
 returns : tie.Need-returns Inv-loop μ-loop
 returns c =
-    let args = c .before .before .before .before .before .before .before .before .args in
-    let visit-call = c .before .before .before .before .visit in
+    let entry = c .before .before .before .before .before .before .before .before .before in
+    let visit = c .before .before .before .before .visit in
     let e : c .before .loop .head ≡ c .before .loop .n = omega arith in
-    (searched (chainGraph (args .words .now)) (args .t .0) (c .before .loop .n) _ (args .work .now) _ (c .before .loop .work) (visit-call .ensures) (rw e at (c .before .loop .inv .2)), c .before .loop .inv .0)
+    (searched (chainGraph (entry .args .words .now)) (entry .args .t .0) (c .before .loop .n) _ (entry .args .work .now) _ (c .before .loop .work) (visit .ensures) (rw e at (c .before .loop .inv .2)), c .before .loop .inv .0)
 
 pub search-spec : {M : Type 1} → statement M
 search-spec =
@@ -95,6 +100,7 @@ search-spec =
     (tie.spec
     Inv-loop
     μ-loop
+    (λ c κs. search needs)  -- counts-at-requires
     visit-requires
     loop-holds
     (λ c. search needs)  -- add-s

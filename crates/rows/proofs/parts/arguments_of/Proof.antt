@@ -14,8 +14,9 @@ run-of-requires : tie.Need-run-of-requires
 run-of-requires c κs = arguments-cut _ _ (c .before .before .before .pre .0) _ (search needs) _ _ (c .before .argument-names .ensures) (c .arguments-ends .ensures)
 
 returns : tie.Need-returns
-returns c = arguments-part _ _ (c .before .before .before .before .pre .0) _ (search needs) _ _ (c .before .before .argument-names .ensures) (c .before .arguments-ends .ensures) _ (c .run-of .ensures)
+returns c =
+    let pre = c .before .before .before .before .pre in
+    arguments-part _ _ (pre .0) _ (search needs) _ _ (c .before .before .argument-names .ensures) (c .before .arguments-ends .ensures) _ (c .run-of .ensures)
 
 pub arguments-of-spec : {M : Type 1} → statement M
-arguments-of-spec =
-    tie.close (tie.spec argument-names-requires arguments-ends-requires run-of-requires returns)
+arguments-of-spec = tie.close (tie.spec argument-names-requires arguments-ends-requires run-of-requires returns)

@@ -10,15 +10,18 @@ edge-names-requires c κs = search needs
 edges-ends-requires : tie.Need-edges-ends-requires
 edges-ends-requires c κs = search needs
 
-cast-run-of : tie.Need-cast-run-of
-cast-run-of c = search needs
+index-requires : tie.Need-index-requires
+index-requires c κs = search needs
 
 run-of-requires : tie.Need-run-of-requires
-run-of-requires c κs = edges-cut _ _ (c .before .before .before .before .pre .0) _ (search needs) _ _ (c .before .before .edge-names .ensures) (c .before .edges-ends .ensures)
+run-of-requires c κs =
+    let pre = c .before .before .before .before .pre in
+    rw (c .index .ensures) (edges-cut _ _ (pre .0) _ (search needs) _ _ (c .before .before .edge-names .ensures) (c .before .edges-ends .ensures))
 
 returns : tie.Need-returns
-returns c = edges-part _ _ (c .before .before .before .before .before .pre .0) _ (search needs) _ _ (c .before .before .before .edge-names .ensures) (c .before .before .edges-ends .ensures) _ (c .run-of .ensures)
+returns c =
+    let pre = c .before .before .before .before .before .pre in
+    edges-part _ _ (pre .0) _ (search needs) _ _ (c .before .before .before .edge-names .ensures) (c .before .before .edges-ends .ensures) _ (rw (c .before .index .ensures) at (c .run-of .ensures))
 
 pub edges-of-spec : {M : Type 1} → statement M
-edges-of-spec =
-    tie.close (tie.spec edge-names-requires edges-ends-requires cast-run-of run-of-requires returns)
+edges-of-spec = tie.close (tie.spec edge-names-requires edges-ends-requires index-requires run-of-requires returns)

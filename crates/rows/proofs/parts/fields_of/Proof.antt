@@ -10,15 +10,18 @@ field-names-requires c κs = search needs
 fields-ends-requires : tie.Need-fields-ends-requires
 fields-ends-requires c κs = search needs
 
-cast-run-of : tie.Need-cast-run-of
-cast-run-of c = search needs
+index-requires : tie.Need-index-requires
+index-requires c κs = search needs
 
 run-of-requires : tie.Need-run-of-requires
-run-of-requires c κs = fields-cut _ _ (c .before .before .before .before .pre .0) _ (search needs) _ _ (c .before .before .field-names .ensures) (c .before .fields-ends .ensures)
+run-of-requires c κs =
+    let pre = c .before .before .before .before .pre in
+    rw (c .index .ensures) (fields-cut _ _ (pre .0) _ (search needs) _ _ (c .before .before .field-names .ensures) (c .before .fields-ends .ensures))
 
 returns : tie.Need-returns
-returns c = fields-part _ _ (c .before .before .before .before .before .pre .0) _ (search needs) _ _ (c .before .before .before .field-names .ensures) (c .before .before .fields-ends .ensures) _ (c .run-of .ensures)
+returns c =
+    let pre = c .before .before .before .before .before .pre in
+    fields-part _ _ (pre .0) _ (search needs) _ _ (c .before .before .before .field-names .ensures) (c .before .before .fields-ends .ensures) _ (rw (c .before .index .ensures) at (c .run-of .ensures))
 
 pub fields-of-spec : {M : Type 1} → statement M
-fields-of-spec =
-    tie.close (tie.spec field-names-requires fields-ends-requires cast-run-of run-of-requires returns)
+fields-of-spec = tie.close (tie.spec field-names-requires fields-ends-requires index-requires run-of-requires returns)

@@ -8,13 +8,6 @@ use borrow.Author.Needs.{needs}
 use Rattle.rows.proofs.parts.run_of.Statement.{statement}
 use Rattle.rows.proofs.parts.run_of.Tie as tie
 
-start-at-requires : tie.Need-start-at-requires
-start-at-requires c κs = search needs
-
-end-at-requires : tie.Need-end-at-requires
-end-at-requires c κs = search needs
-
--- the run starts where it ends, or before, and ends within the table
 run-inside : (c : tie.After-end-at)
     → (c .before .before .before .args .first .width * c .before .start-at .result ≤ c .before .before .before .args .first .width * c .end-at .result)
     × (c .before .before .before .args .first .base + c .before .before .before .args .first .width * c .end-at .result ≤ length (c .before .before .before .args .words .now))
@@ -22,6 +15,14 @@ run-inside c =
     let s = c .before .before .before in
     let h : c .before .start-at .result ≤ c .end-at .result = simp (c .before .start-at .ensures .0, c .end-at .ensures .0) (s .pre .1 .1 .0) in
     (mul-le-mul-left (s .args .first .width) h, rw (c .end-at .ensures .0) (s .pre .1 .1 .1))
+
+start-at-requires : tie.Need-start-at-requires
+start-at-requires c κs = search needs
+
+end-at-requires : tie.Need-end-at-requires
+end-at-requires c κs = search needs
+
+-- the run starts where it ends, or before, and ends within the table
 
 mul-start : tie.Need-mul-start
 mul-start c =
@@ -65,20 +66,12 @@ part-result-end c =
 
 returns : tie.Need-returns
 unfolding runOf
-returns c = simp (c .before .before .before .before .before .before .start-at .ensures .0, c .before .before .before .before .before .end-at .ensures .0)
+returns c =
+    let start-at = c .before .before .before .before .before .before .start-at in
+    let end-at = c .before .before .before .before .before .end-at in
+    let start-at = start-at in
+    let end-at = end-at in
+    simp (start-at .ensures .0, end-at .ensures .0)
 
 pub run-of-spec : {M : Type 1} → statement M
-run-of-spec =
-    tie.close
-    (tie.spec
-    start-at-requires
-    end-at-requires
-    mul-start
-    add-start
-    mul-end
-    add-end
-    mul-result
-    sub-result
-    part-result-start
-    part-result-end
-    returns)
+run-of-spec = tie.close (tie.spec start-at-requires end-at-requires mul-start add-start mul-end add-end mul-result sub-result part-result-start part-result-end returns)

@@ -10,15 +10,18 @@ value-names-requires c κs = search needs
 values-ends-requires : tie.Need-values-ends-requires
 values-ends-requires c κs = search needs
 
-cast-run-of : tie.Need-cast-run-of
-cast-run-of c = search needs
+index-requires : tie.Need-index-requires
+index-requires c κs = search needs
 
 run-of-requires : tie.Need-run-of-requires
-run-of-requires c κs = values-cut _ _ (c .before .before .before .before .pre .0) _ (search needs) _ _ (c .before .before .value-names .ensures) (c .before .values-ends .ensures)
+run-of-requires c κs =
+    let pre = c .before .before .before .before .pre in
+    rw (c .index .ensures) (values-cut _ _ (pre .0) _ (search needs) _ _ (c .before .before .value-names .ensures) (c .before .values-ends .ensures))
 
 returns : tie.Need-returns
-returns c = values-part _ _ (c .before .before .before .before .before .pre .0) _ (search needs) _ _ (c .before .before .before .value-names .ensures) (c .before .before .values-ends .ensures) _ (c .run-of .ensures)
+returns c =
+    let pre = c .before .before .before .before .before .pre in
+    values-part _ _ (pre .0) _ (search needs) _ _ (c .before .before .before .value-names .ensures) (c .before .before .values-ends .ensures) _ (rw (c .before .index .ensures) at (c .run-of .ensures))
 
 pub values-of-spec : {M : Type 1} → statement M
-values-of-spec =
-    tie.close (tie.spec value-names-requires values-ends-requires cast-run-of run-of-requires returns)
+values-of-spec = tie.close (tie.spec value-names-requires values-ends-requires index-requires run-of-requires returns)

@@ -9,15 +9,16 @@ use Rattle.rows.proofs.parts.values_start.Tie as tie
 values-ends-requires : tie.Need-values-ends-requires
 values-ends-requires c κs = search needs
 
-cast-start-at : tie.Need-cast-start-at
-cast-start-at c = search needs
+index-requires : tie.Need-index-requires
+index-requires c κs = search needs
 
 start-at-requires : tie.Need-start-at-requires
-start-at-requires c κs = rw (c .before .values-ends .ensures) (inside-type (c .before .before .before .pre .0) 6 (lit< tt), omega arith)
+start-at-requires c κs = rw (c .before .values-ends .ensures, c .index .ensures) (inside-type (c .before .before .before .pre .0) 6 (lit< tt), omega arith)
 
 returns : tie.Need-returns
-returns c = simp (c .start-at .ensures .0, c .before .before .values-ends .ensures, c .before .before .before .before .pre .0 .same)
+returns c =
+    let pre = c .before .before .before .before .pre in
+    simp (c .start-at .ensures .0, c .before .before .values-ends .ensures, c .before .index .ensures, pre .0 .same)
 
 pub values-start-spec : {M : Type 1} → statement M
-values-start-spec =
-    tie.close (tie.spec values-ends-requires cast-start-at start-at-requires returns)
+values-start-spec = tie.close (tie.spec values-ends-requires index-requires start-at-requires returns)

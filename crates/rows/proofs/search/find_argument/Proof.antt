@@ -32,9 +32,14 @@ loop-holds c = (omega arith, c .argument-rows .ensures, rw (zero-less (argumentR
 argument-name-requires : tie.Need-argument-name-requires Inv-loop μ-loop
 argument-name-requires c κs = search needs
 
+same-requires : tie.Need-same-requires Inv-loop μ-loop
+same-requires c κs = search needs
+
 returns : tie.Need-returns Inv-loop μ-loop
-returns c = let t = rw (c .before .before .before .before .before .loop .inv .1) at (c .before .before .before .before .loop-test .taken) in
-    let e = c .before .before .before .before .before .loop .inv .2 ∙ find-here _ _ _ t (eq-eqb _ _ (sym (c .before .before .before .argument-name .ensures) ∙ c .if1 .taken)) in
+returns c =
+    let loop = c .before .before .before .before .loop in
+    let t = rw (loop .inv .1) at (c .before .before .before .loop-test .taken) in
+    let e = loop .inv .2 ∙ find-here _ _ _ t (rw (c .before .before .argument-name .ensures) at (sym (c .before .same .ensures) ∙ c .if1 .taken)) in
     sym (rw e (found-row _ _ t))
 
 add-i : tie.Need-add-i Inv-loop μ-loop
@@ -44,8 +49,10 @@ loop-less : tie.Need-loop-less Inv-loop μ-loop
 loop-less c = search needs
 
 loop-again : tie.Need-loop-again Inv-loop μ-loop
-loop-again c = let t = rw (c .before .before .before .before .before .loop .inv .1) at (c .before .before .before .before .loop-test .taken) in
-    (omega arith, c .before .before .before .before .before .loop .inv .1, c .before .before .before .before .before .loop .inv .2 ∙ find-next _ _ _ t (ne-eqb _ _ (rw (c .before .before .before .argument-name .ensures) at (c .if1 .left))))
+loop-again c =
+    let loop = c .before .before .before .before .loop in
+    let t = rw (loop .inv .1) at (c .before .before .before .loop-test .taken) in
+    (omega arith, loop .inv .1, loop .inv .2 ∙ find-next _ _ _ t (rw (c .before .before .argument-name .ensures) at (sym (c .before .same .ensures) ∙ c .if1 .left)))
 
 returns-2 : tie.Need-returns-2 Inv-loop μ-loop
 returns-2 c = let t = rw (c .before .loop .inv .1) at (c .loop-test .left) in
@@ -53,16 +60,4 @@ returns-2 c = let t = rw (c .before .loop .inv .1) at (c .loop-test .left) in
     sym (rw e (found-no-row _ _ t))
 
 pub find-argument-spec : {M : Type 1} → statement M
-find-argument-spec =
-    tie.close
-    (tie.spec
-    Inv-loop
-    μ-loop
-    argument-rows-requires
-    loop-holds
-    argument-name-requires
-    returns
-    add-i
-    loop-less
-    loop-again
-    returns-2)
+find-argument-spec = tie.close (tie.spec Inv-loop μ-loop argument-rows-requires loop-holds argument-name-requires same-requires returns add-i loop-less loop-again returns-2)

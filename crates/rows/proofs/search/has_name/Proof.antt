@@ -22,18 +22,22 @@ abbrev μ-loop : tie.MeasureT-loop
 
 loop-holds : tie.Need-loop-holds Inv-loop μ-loop
 unfolding indexOf
-loop-holds c = (omega arith, rw (zero-less (length (c .args .names .now))) refl)
+loop-holds c = (omega arith, rw (zero-less (length (c .before .args .names .now))) refl)
 
-mul-if1 : tie.Need-mul-if1 Inv-loop μ-loop
-mul-if1 c = search needs
+mul-t4 : tie.Need-mul-t4 Inv-loop μ-loop
+mul-t4 c = search needs
 
-shared-slice-read-if1 : tie.Need-shared-slice-read-if1 Inv-loop μ-loop
-shared-slice-read-if1 c = search needs
+shared-slice-read-t8 : tie.Need-shared-slice-read-t8 Inv-loop μ-loop
+shared-slice-read-t8 c = search needs
+
+same-requires : tie.Need-same-requires Inv-loop μ-loop
+same-requires c κs = search needs
 
 returns : tie.Need-returns Inv-loop μ-loop
-returns c = let t = c .before .before .before .loop-test .taken in
-    let e = c .before .before .before .before .loop .inv .1 ∙ find-here _ _ _ t (eq-eqb _ _ (c .if1 .taken)) in
-    sym (rw e (lt-ltb _ _ t))
+returns c =
+    let loop = c .before .before .before .before .loop in
+    let e = loop .inv .1 ∙ find-here _ _ _ (c .before .before .before .loop-test .taken) (sym (c .before .same .ensures) ∙ c .if1 .taken) in
+    sym (rw e (lt-ltb _ _ (c .before .before .before .loop-test .taken)))
 
 add-i : tie.Need-add-i Inv-loop μ-loop
 add-i c = search needs
@@ -42,23 +46,13 @@ loop-less : tie.Need-loop-less Inv-loop μ-loop
 loop-less c = search needs
 
 loop-again : tie.Need-loop-again Inv-loop μ-loop
-loop-again c = (omega arith, c .before .before .before .before .loop .inv .1 ∙ find-next _ _ _ (c .before .before .before .loop-test .taken) (ne-eqb _ _ (c .if1 .left)))
+loop-again c =
+    let loop = c .before .before .before .before .loop in
+    (omega arith, loop .inv .1 ∙ find-next _ _ _ (c .before .before .before .loop-test .taken) (sym (c .before .same .ensures) ∙ c .if1 .left))
 
 returns-2 : tie.Need-returns-2 Inv-loop μ-loop
 returns-2 c = let e = c .before .loop .inv .1 ∙ find-end _ _ _ (c .loop-test .left) in
     sym (rw e (le-ltb _ _ (c .loop-test .left)))
 
 pub has-name-spec : {M : Type 1} → statement M
-has-name-spec =
-    tie.close
-    (tie.spec
-    Inv-loop
-    μ-loop
-    loop-holds
-    mul-if1
-    shared-slice-read-if1
-    returns
-    add-i
-    loop-less
-    loop-again
-    returns-2)
+has-name-spec = tie.close (tie.spec Inv-loop μ-loop loop-holds mul-t4 shared-slice-read-t8 same-requires returns add-i loop-less loop-again returns-2)

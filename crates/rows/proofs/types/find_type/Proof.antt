@@ -32,12 +32,14 @@ cast-t7 c = search needs
 type-name-requires : tie.Need-type-name-requires Inv-loop μ-loop
 type-name-requires c κs = search needs
 
+same-requires : tie.Need-same-requires Inv-loop μ-loop
+same-requires c κs = search needs
+
 returns : tie.Need-returns Inv-loop μ-loop
 returns c =
-    let b = c .before .before .before .before .before .before in
-    let t = c .before .before .before .before .if1 .taken in
-    let e = b .loop .inv .1 ∙ find-here _ _ _ t (eq-eqb _ _ (sym (c .before .before .before .type-name .ensures) ∙ c .if2 .taken)) in
-    sym (rw e (found-at _ _ t))
+    let loop = c .before .before .before .before .before .loop in
+    let e = loop .inv .1 ∙ find-here _ _ _ (c .before .before .before .if1 .taken) (rw (c .before .before .type-name .ensures) at (sym (c .before .same .ensures) ∙ c .if2 .taken)) in
+    sym (rw e (found-at _ _ (c .before .before .before .if1 .taken)))
 
 add-t : tie.Need-add-t Inv-loop μ-loop
 add-t c = search needs
@@ -47,24 +49,11 @@ loop-less c = search needs
 
 loop-again : tie.Need-loop-again Inv-loop μ-loop
 loop-again c =
-    let b = c .before .before .before .before .before .before in
-    let t = c .before .before .before .before .if1 .taken in
-    (omega arith, b .loop .inv .1 ∙ find-next _ _ _ t (ne-eqb _ _ (rw (c .before .before .before .type-name .ensures) at (c .if2 .left))))
+    let loop = c .before .before .before .before .before .loop in
+    (omega arith, loop .inv .1 ∙ find-next _ _ _ (c .before .before .before .if1 .taken) (rw (c .before .before .type-name .ensures) at (sym (c .before .same .ensures) ∙ c .if2 .left)))
 
 returns-2 : tie.Need-returns-2 Inv-loop μ-loop
 returns-2 c = let e = c .before .before .loop .inv .1 ∙ find-end _ _ _ (c .if1 .left) in sym (rw e (found-nothing _ _ (c .if1 .left)))
 
 pub find-type-spec : {M : Type 1} → statement M
-find-type-spec =
-    tie.close
-    (tie.spec
-    Inv-loop
-    μ-loop
-    loop-holds
-    cast-t7
-    type-name-requires
-    returns
-    add-t
-    loop-less
-    loop-again
-    returns-2)
+find-type-spec = tie.close (tie.spec Inv-loop μ-loop loop-holds cast-t7 type-name-requires same-requires returns add-t loop-less loop-again returns-2)

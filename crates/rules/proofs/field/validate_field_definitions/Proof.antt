@@ -39,7 +39,9 @@ part-validate-field-end : tie.Need-part-validate-field-end Inv-loop μ-loop
 part-validate-field-end c = search needs
 
 validate-field-requires : tie.Need-validate-field-requires Inv-loop μ-loop
-validate-field-requires c κs = (c .before .before .before .before .before .before .before .before .before .before .pre .0, ((search needs, rw (c .before .before .before .loop .inv .1) at (c .before .before .loop-test .taken)), (c .before .before .before .before .before .before .before .before .before .before .pre .1 .1 .0, c .before .before .before .before .before .before .before .before .before .before .pre .1 .1 .1)))
+validate-field-requires c κs =
+    let entry = c .before .before .before .before .before .before .before .before .before .before in
+    (entry .pre .0, ((search needs, rw (c .before .before .before .loop .inv .1) at (c .before .before .loop-test .taken)), entry .pre .1 .1))
 
 add-n : tie.Need-add-n Inv-loop μ-loop
 add-n c = search needs
@@ -51,14 +53,18 @@ loop-less : tie.Need-loop-less Inv-loop μ-loop
 loop-less c = search needs
 
 loop-again : tie.Need-loop-again Inv-loop μ-loop
-loop-again c = (search needs, c .before .before .before .before .before .before .loop .inv .1, search needs, rw each-more (emit-seq _ _ _ _ _ _ _ _ (c .before .before .before .before .before .before .loop .inv .3) (c .before .before .before .before .used .ensures) (c .before .before .validate-field .ensures .0)))
+loop-again c =
+    let turn = c .before .before .before .before .before .before in
+    (search needs, turn .loop .inv .1, search needs, rw each-more (emit-seq _ _ _ _ _ _ _ _ (turn .loop .inv .3) (c .before .before .before .before .used .ensures) (c .before .before .validate-field .ensures .0)))
 
 same-length : tie.Need-same-length Inv-loop μ-loop
 same-length c = search needs
 
 returns : tie.Need-returns Inv-loop μ-loop
 unfolding fieldsRecords
-returns c = let e : c .before .loop .i ≡ fieldRows (c .before .before .before .before .before .before .before .before .args .fields .now) = omega arith in (rw e at (c .before .loop .inv .3), omega arith)
+returns c =
+    let entry = c .before .before .before .before .before .before .before .before in
+    let e : c .before .loop .i ≡ fieldRows (entry .args .fields .now) = omega arith in (rw e at (c .before .loop .inv .3), omega arith)
 
 pub validate-field-definitions-spec : {M : Type 1} → statement M
 validate-field-definitions-spec =

@@ -2,7 +2,6 @@
 use borrow.Author.Needs.{needs}
 use native.Mathlib.Omega.{arith}
 use mathlib.Core.Path.{sym, _∙_}
-use borrow.Author.Tests.{eq-eqb, ne-eqb}
 use Rattle.records.proofs.Records.{emit-none}
 use Rattle.rows.proofs.FoundTypes.{named, unnamed, kind-named}
 use Rattle.rules.specs.Field.{outputTypeRecord}
@@ -20,7 +19,9 @@ is-builtin-requires c κs = search needs
 
 returns : tie.Need-returns
 unfolding outputTypeRecord
-returns c = let m = unnamed _ _ (c .before .before .before .before .before .before .before .before .before .pre .0 .sound .laid) _ _ (c .before .before .before .before .look-up .ensures) (c .before .before .enum-told .given .1) in
+returns c =
+    let entry = c .before .before .before .before .before .before .before .before .before in
+    let m = unnamed _ _ (entry .pre .0 .readable .sound .laid) _ _ (c .before .before .before .before .look-up .ensures) (c .before .before .enum-told .given .1) in
     (simp (m, sym (c .before .is-builtin .ensures) ∙ c .if1 .taken) (emit-none _), omega arith)
 
 undefined-definition-requires : tie.Need-undefined-definition-requires
@@ -33,7 +34,12 @@ enum-known-ty : tie.Need-enum-known-ty
 enum-known-ty c = search needs
 
 type-kind-requires : tie.Need-type-kind-requires
-type-kind-requires c κs = (c .before .before .before .before .before .before .before .before .pre .0 .sound .laid, named _ _ (c .before .before .before .before .before .before .before .before .pre .0 .sound .laid) _ _ (c .before .before .before .look-up .ensures) _ (c .before .ty .given .1) .below)
+type-kind-requires c κs =
+    let entry = c .before .before .before .before .before .before .before .before in
+    (entry .pre .0 .readable .sound .laid, named _ _ (entry .pre .0 .readable .sound .laid) _ _ (c .before .before .before .look-up .ensures) _ (c .before .ty .given .1) .below)
+
+is-input-object-requires : tie.Need-is-input-object-requires
+is-input-object-requires c κs = search needs
 
 output-type-requires : tie.Need-output-type-requires
 output-type-requires c κs = search needs
@@ -46,21 +52,35 @@ same-length c = search needs
 
 returns-2 : tie.Need-returns-2
 unfolding outputTypeRecord
-returns-2 c = let m = named _ _ (c .before .before .before .before .before .before .before .before .before .before .before .before .before .before .before .pre .0 .sound .laid) _ _ (c .before .before .before .before .before .before .before .before .before .before .look-up .ensures) _ (c .before .before .before .before .before .before .before .before .ty .given .1) in
-    (simp (m .there, eq-eqb _ _ (sym (kind-named _ _ _ _ _ m (c .before .before .before .before .before .before .type-kind .ensures)) ∙ c .before .before .before .before .before .if2 .taken), ← c .before .before .before .output-type .ensures) (c .before .before .put2 .ensures .0), c .before .before .put2 .ensures .1)
+returns-2 c =
+    let at-is-input-object = c .before .before .before .before .before .before in
+    let at-type-kind = at-is-input-object .before in
+    let at-ty = at-type-kind .before .before in
+    let at-look-up = at-ty .before .before in
+    let entry = at-look-up .before .before .before .before .before in
+    let m = named _ _ (entry .pre .0 .readable .sound .laid) _ _ (at-look-up .look-up .ensures) _ (at-ty .ty .given .1) in
+    (simp (m .there, rw (kind-named _ _ _ _ _ m (at-type-kind .type-kind .ensures)) at (sym (at-is-input-object .is-input-object .ensures) ∙ c .before .before .before .before .before .if2 .taken), ← c .before .before .before .output-type .ensures) (c .before .before .put2 .ensures .0), c .before .before .put2 .ensures .1)
 
 same-length-2 : tie.Need-same-length-2
 same-length-2 c = search needs
 
 returns-3 : tie.Need-returns-3
 unfolding outputTypeRecord
-returns-3 c = let m = unnamed _ _ (c .before .before .before .before .before .before .before .before .before .before .before .before .before .before .pre .0 .sound .laid) _ _ (c .before .before .before .before .before .before .before .before .before .look-up .ensures) (c .before .before .before .before .before .before .before .enum-told .given .1) in
-    (simp (m, sym (c .before .before .before .before .before .before .is-builtin .ensures) ∙ c .before .before .before .before .before .if1 .left, ← c .before .before .before .undefined-definition .ensures) (c .before .before .put .ensures .0), c .before .before .put .ensures .1)
+returns-3 c =
+    let at-is-builtin = c .before .before .before .before .before .before in
+    let at-enum-told = at-is-builtin .before in
+    let at-look-up = at-enum-told .before .before in
+    let entry = at-look-up .before .before .before .before .before in
+    let m = unnamed _ _ (entry .pre .0 .readable .sound .laid) _ _ (at-look-up .look-up .ensures) (at-enum-told .enum-told .given .1) in
+    (simp (m, sym (at-is-builtin .is-builtin .ensures) ∙ c .before .before .before .before .before .if1 .left, ← c .before .before .before .undefined-definition .ensures) (c .before .before .put .ensures .0), c .before .before .put .ensures .1)
 
 returns-4 : tie.Need-returns-4
 unfolding outputTypeRecord
-returns-4 c = let m = named _ _ (c .before .before .before .before .before .before .before .before .before .before .pre .0 .sound .laid) _ _ (c .before .before .before .before .before .look-up .ensures) _ (c .before .before .before .ty .given .1) in
-    (simp (m .there, ne-eqb _ _ (rw (kind-named _ _ _ _ _ m (c .before .type-kind .ensures)) at (c .if2 .left))) (emit-none _), omega arith)
+returns-4 c =
+    let at-look-up = c .before .before .before .before .before .before in
+    let entry = at-look-up .before .before .before .before .before in
+    let m = named _ _ (entry .pre .0 .readable .sound .laid) _ _ (at-look-up .look-up .ensures) _ (c .before .before .before .before .ty .given .1) in
+    (simp (m .there, rw (kind-named _ _ _ _ _ m (c .before .before .type-kind .ensures)) at (sym (c .before .is-input-object .ensures) ∙ c .if2 .left)) (emit-none _), omega arith)
 
 pub validate-output-type-spec : {M : Type 1} → statement M
 validate-output-type-spec =
@@ -74,6 +94,7 @@ validate-output-type-spec =
     put-requires
     enum-known-ty
     type-kind-requires
+    is-input-object-requires
     output-type-requires
     put-requires-2
     same-length

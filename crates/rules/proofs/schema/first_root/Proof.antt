@@ -4,7 +4,6 @@ use native.Mathlib.Omega.{arith}
 use mathlib.Core.Path.{_≡_, refl, sym, _∙_}
 use Prim.Native.Nat.{ℕ, _≤_, _-_}
 use lib.Dec.{eqb}
-use borrow.Author.Tests.{eq-eqb, ne-eqb}
 use Rattle.table.specs.Layout.{root}
 use Rattle.rows.specs.Search.{find}
 use Rattle.rows.proofs.FindLaws.{find-here, find-next, find-end}
@@ -28,8 +27,11 @@ loop-holds c = (omega arith, rw (zero-less (c .before .args .operation)) refl)
 root-name-requires : tie.Need-root-name-requires Inv-loop μ-loop
 root-name-requires c κs = search needs
 
+same-requires : tie.Need-same-requires Inv-loop μ-loop
+same-requires c κs = search needs
+
 returns : tie.Need-returns Inv-loop μ-loop
-returns c = sym (c .before .before .before .before .before .loop .inv .1 ∙ find-here _ _ _ (c .before .before .before .before .loop-test .taken) (eq-eqb _ _ (sym (c .before .before .before .root-name .ensures) ∙ c .if1 .taken)))
+returns c = sym (c .before .before .before .before .loop .inv .1 ∙ find-here _ _ _ (c .before .before .before .loop-test .taken) (rw (c .before .before .root-name .ensures) at (sym (c .before .same .ensures) ∙ c .if1 .taken)))
 
 add-first : tie.Need-add-first Inv-loop μ-loop
 add-first c = search needs
@@ -38,7 +40,7 @@ loop-less : tie.Need-loop-less Inv-loop μ-loop
 loop-less c = search needs
 
 loop-again : tie.Need-loop-again Inv-loop μ-loop
-loop-again c = (omega arith, c .before .before .before .before .before .loop .inv .1 ∙ find-next _ _ _ (c .before .before .before .before .loop-test .taken) (ne-eqb _ _ (rw (c .before .before .before .root-name .ensures) at (c .if1 .left))))
+loop-again c = (omega arith, c .before .before .before .before .loop .inv .1 ∙ find-next _ _ _ (c .before .before .before .loop-test .taken) (rw (c .before .before .root-name .ensures) at (sym (c .before .same .ensures) ∙ c .if1 .left)))
 
 returns-2 : tie.Need-returns-2 Inv-loop μ-loop
 returns-2 c = let e : c .before .loop .first ≡ c .before .before .before .args .operation = omega arith in
@@ -52,6 +54,7 @@ first-root-spec =
     μ-loop
     loop-holds
     root-name-requires
+    same-requires
     returns
     add-first
     loop-less

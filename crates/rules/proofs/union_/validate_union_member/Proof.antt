@@ -25,11 +25,15 @@ enum-known-member : tie.Need-enum-known-member
 enum-known-member c = search needs
 
 type-kind-requires : tie.Need-type-kind-requires
-type-kind-requires c κs = (c .before .before .before .before .before .before .before .pre .0 .laid, named _ _ (c .before .before .before .before .before .before .before .pre .0 .laid) _ _ (c .before .before .before .look-up .ensures) _ (c .before .member .given .1) .below)
+type-kind-requires c κs =
+    let entry = c .before .before .before .before .before .before .before in
+    (entry .pre .rows .laid, named _ _ (entry .pre .rows .laid) _ _ (c .before .before .before .look-up .ensures) _ (c .before .member .given .1) .below)
 
 returns : tie.Need-returns
 unfolding memberRecord
-returns c = let m = named _ _ (c .before .before .before .before .before .before .before .before .before .pre .0 .laid) _ _ (c .before .before .before .before .before .look-up .ensures) _ (c .before .before .before .member .given .1) in
+returns c =
+    let entry = c .before .before .before .before .before .before .before .before .before in
+    let m = named _ _ (entry .pre .rows .laid) _ _ (c .before .before .before .before .before .look-up .ensures) _ (c .before .before .before .member .given .1) in
     (simp (m .there, eq-eqb _ _ (sym (kind-named _ _ _ _ _ m (c .before .type-kind .ensures)) ∙ c .if1 .taken)) (emit-none _), omega arith)
 
 union-member-object-type-requires : tie.Need-union-member-object-type-requires
@@ -43,7 +47,10 @@ same-length c = search needs
 
 returns-2 : tie.Need-returns-2
 unfolding memberRecord
-returns-2 c = let m = unnamed _ _ (c .before .before .before .before .before .before .before .before .before .before .before .pre .0 .laid) _ _ (c .before .before .before .before .before .before .before .look-up .ensures) (c .before .before .before .before .before .enum-told .given .1) in
+returns-2 c =
+    let at-look-up = c .before .before .before .before .before .before .before in
+    let entry = at-look-up .before .before .before .before in
+    let m = unnamed _ _ (entry .pre .rows .laid) _ _ (at-look-up .look-up .ensures) (c .before .before .before .before .before .enum-told .given .1) in
     (simp (m, ← c .before .before .before .undefined-definition .ensures) (c .before .before .put .ensures .0), c .before .before .put .ensures .1)
 
 same-length-2 : tie.Need-same-length-2
@@ -51,8 +58,13 @@ same-length-2 c = search needs
 
 returns-3 : tie.Need-returns-3
 unfolding memberRecord
-returns-3 c = let m = named _ _ (c .before .before .before .before .before .before .before .before .before .before .before .before .before .before .pre .0 .laid) _ _ (c .before .before .before .before .before .before .before .before .before .before .look-up .ensures) _ (c .before .before .before .before .before .before .before .before .member .given .1) in
-    (simp (m .there, ne-eqb _ _ (rw (kind-named _ _ _ _ _ m (c .before .before .before .before .before .before .type-kind .ensures)) at (c .before .before .before .before .before .if1 .left)), ← c .before .before .before .union-member-object-type .ensures) (c .before .before .put2 .ensures .0), c .before .before .put2 .ensures .1)
+returns-3 c =
+    let at-type-kind = c .before .before .before .before .before .before in
+    let at-member = at-type-kind .before .before in
+    let at-look-up = at-member .before .before in
+    let entry = at-look-up .before .before .before .before in
+    let m = named _ _ (entry .pre .rows .laid) _ _ (at-look-up .look-up .ensures) _ (at-member .member .given .1) in
+    (simp (m .there, ne-eqb _ _ (rw (kind-named _ _ _ _ _ m (at-type-kind .type-kind .ensures)) at (c .before .before .before .before .before .if1 .left)), ← c .before .before .before .union-member-object-type .ensures) (c .before .before .put2 .ensures .0), c .before .before .put2 .ensures .1)
 
 pub validate-union-member-spec : {M : Type 1} → statement M
 validate-union-member-spec =

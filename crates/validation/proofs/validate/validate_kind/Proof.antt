@@ -49,31 +49,41 @@ same-length : tie.Need-same-length
 same-length c = search needs
 
 returns-2 : tie.Need-returns-2
-returns-2 c = (rw (kind-object _ _ _ _ _ (c .before .before .before .before .before .before .kind-of .ensures) (c .before .before .before .before .enum-told2 .given .1)) (c .before .before .validate-object-type-definition .ensures .0), omega (arith, c .before .before .validate-object-type-definition .ensures .1))
+returns-2 c =
+    let at-kind-of = c .before .before .before .before .before .before in
+    (rw (kind-object _ _ _ _ _ (at-kind-of .kind-of .ensures) (c .before .before .before .before .enum-told2 .given .1)) (c .before .before .validate-object-type-definition .ensures .0), omega (arith, c .before .before .validate-object-type-definition .ensures .1))
 
 same-length-2 : tie.Need-same-length-2
 same-length-2 c = search needs
 
 returns-3 : tie.Need-returns-3
-returns-3 c = (rw (kind-interface _ _ _ _ _ (c .before .before .before .before .before .before .kind-of .ensures) (c .before .before .before .before .enum-told3 .given .1)) (c .before .before .validate-interface-definition .ensures .0), omega (arith, c .before .before .validate-interface-definition .ensures .1))
+returns-3 c =
+    let at-kind-of = c .before .before .before .before .before .before in
+    (rw (kind-interface _ _ _ _ _ (at-kind-of .kind-of .ensures) (c .before .before .before .before .enum-told3 .given .1)) (c .before .before .validate-interface-definition .ensures .0), omega (arith, c .before .before .validate-interface-definition .ensures .1))
 
 same-length-3 : tie.Need-same-length-3
 same-length-3 c = search needs
 
 returns-4 : tie.Need-returns-4
-returns-4 c = (rw (kind-union _ _ _ _ _ (c .before .before .before .before .before .before .kind-of .ensures) (c .before .before .before .before .enum-told4 .given .1)) (c .before .before .validate-union .ensures .0), omega (arith, c .before .before .validate-union .ensures .1))
+returns-4 c =
+    let at-kind-of = c .before .before .before .before .before .before in
+    (rw (kind-union _ _ _ _ _ (at-kind-of .kind-of .ensures) (c .before .before .before .before .enum-told4 .given .1)) (c .before .before .validate-union .ensures .0), omega (arith, c .before .before .validate-union .ensures .1))
 
 same-length-4 : tie.Need-same-length-4
 same-length-4 c = search needs
 
 returns-5 : tie.Need-returns-5
-returns-5 c = (rw (kind-enum _ _ _ _ _ (c .before .before .before .before .before .before .kind-of .ensures) (c .before .before .before .before .enum-told5 .given .1)) (c .before .before .validate-enum .ensures .0), omega (arith, c .before .before .validate-enum .ensures .1))
+returns-5 c =
+    let at-kind-of = c .before .before .before .before .before .before in
+    (rw (kind-enum _ _ _ _ _ (at-kind-of .kind-of .ensures) (c .before .before .before .before .enum-told5 .given .1)) (c .before .before .validate-enum .ensures .0), omega (arith, c .before .before .validate-enum .ensures .1))
 
 same-length-5 : tie.Need-same-length-5
 same-length-5 c = search needs
 
 returns-6 : tie.Need-returns-6
-returns-6 c = (rw (kind-input-object _ _ _ _ _ (c .before .before .before .before .before .before .kind-of .ensures) (c .before .before .before .before .enum-told6 .given .1)) (c .before .before .validate-input-object .ensures .0), omega (arith, c .before .before .validate-input-object .ensures .1))
+returns-6 c =
+    let at-kind-of = c .before .before .before .before .before .before in
+    (rw (kind-input-object _ _ _ _ _ (at-kind-of .kind-of .ensures) (c .before .before .before .before .enum-told6 .given .1)) (c .before .before .validate-input-object .ensures .0), omega (arith, c .before .before .validate-input-object .ensures .1))
 
 pub validate-kind-spec : {M : Type 1} → statement M
 validate-kind-spec =

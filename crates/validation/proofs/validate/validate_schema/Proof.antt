@@ -2,8 +2,7 @@
 use borrow.Author.Needs.{needs}
 use native.Mathlib.Omega.{arith}
 use Rattle.records.proofs.Records.{emit-seq}
-use Rattle.rows.proofs.PartLaws.{type-count}
-use Rattle.rules.specs.Validation.{records}
+use Rattle.validation.specs.Validation.{records}
 use Rattle.validation.proofs.validate.validate_schema.Statement.{statement}
 use Rattle.validation.proofs.validate.validate_schema.Tie as tie
 
@@ -36,7 +35,9 @@ same-length c = search needs
 
 returns : tie.Need-returns
 unfolding records
-returns c = (emit-seq _ _ _ _ _ _ _ _ (c .before .before .before .before .before .before .before .validate-schema-definition .ensures .0) (c .before .before .before .before .used .ensures) (rw (type-count _ _ (c .before .before .before .before .before .before .before .before .before .before .before .before .before .before .pre .0 .sound .laid)) at (c .before .before .validate-types .ensures .0)), omega (arith, c .before .before .before .before .before .before .before .validate-schema-definition .ensures .1, c .before .before .validate-types .ensures .1))
+returns c =
+    let at-validate-schema-definition = c .before .before .before .before .before .before .before in
+    (emit-seq _ _ _ _ _ _ _ _ (at-validate-schema-definition .validate-schema-definition .ensures .0) (c .before .before .before .before .used .ensures) (c .before .before .validate-types .ensures .0), omega (arith, at-validate-schema-definition .validate-schema-definition .ensures .1, c .before .before .validate-types .ensures .1))
 
 pub validate-schema-spec : {M : Type 1} → statement M
 validate-schema-spec =

@@ -3,15 +3,19 @@ use borrow.Author.Needs.{needs}
 use native.Mathlib.Omega.{arith}
 use Rattle.records.proofs.Records.{emit-seq}
 use Rattle.rows.proofs.PartLaws.{type-name-below}
-use Rattle.rules.specs.Validation.{typeRecords}
 use Rattle.validation.proofs.validate.validate_type.Statement.{statement}
 use Rattle.validation.proofs.validate.validate_type.Tie as tie
+
+type-flag-requires : tie.Need-type-flag-requires
+type-flag-requires c κs = search needs
 
 type-name-requires : tie.Need-type-name-requires
 type-name-requires c κs = search needs
 
 validate-type-system-name-requires : tie.Need-validate-type-system-name-requires
-validate-type-system-name-requires c κs = (c .before .before .before .before .before .before .pre .0, (c .before .before .before .before .before .before .pre .1 .0, rw (c .before .type-name .ensures) (type-name-below _ _ (c .before .before .before .before .before .before .pre .0 .sound) _ (c .before .before .before .before .before .before .pre .1 .0))))
+validate-type-system-name-requires c κs =
+    let entry = c .before .before .before .before .before .before .before in
+    (entry .pre .0 .readable, rw (c .before .type-name .ensures) (type-name-below _ _ (entry .pre .0 .readable .sound) _ (entry .pre .1)))
 
 used-requires : tie.Need-used-requires
 used-requires c κs = search needs
@@ -29,7 +33,9 @@ part-validate-kind-end : tie.Need-part-validate-kind-end
 part-validate-kind-end c = search needs
 
 validate-kind-requires : tie.Need-validate-kind-requires
-validate-kind-requires c κs = (c .before .before .before .before .before .before .before .before .before .before .before .pre .0, (search needs, c .before .before .before .before .before .before .before .before .before .before .before .pre .1 .1))
+validate-kind-requires c κs =
+    let entry = c .before .before .before .before .before .before .before .before .before .before .before .before in
+    (entry .pre .0, search needs)
 
 add-result : tie.Need-add-result
 add-result c = search needs
@@ -38,13 +44,17 @@ same-length : tie.Need-same-length
 same-length c = search needs
 
 returns : tie.Need-returns
-unfolding typeRecords
-returns c = (emit-seq _ _ _ _ _ _ _ _ (simp (c .before .before .before .before .before .before .before .before .before .type-name .ensures) at (c .before .before .before .before .before .before .before .validate-type-system-name .ensures .0)) (c .before .before .before .before .used .ensures) (c .before .before .validate-kind .ensures .0), omega (arith, c .before .before .before .before .before .before .before .validate-type-system-name .ensures .1, c .before .before .validate-kind .ensures .1))
+returns c =
+    let at-validate-type-system-name = c .before .before .before .before .before .before .before in
+    let at-type-name = at-validate-type-system-name .before .before in
+    let at-type-flag = at-type-name .before in
+    (emit-seq _ _ _ _ _ _ _ _ (simp (at-type-flag .type-flag .ensures, at-type-name .type-name .ensures) at (at-validate-type-system-name .validate-type-system-name .ensures .0)) (c .before .before .before .before .used .ensures) (c .before .before .validate-kind .ensures .0), omega (arith, at-validate-type-system-name .validate-type-system-name .ensures .1, c .before .before .validate-kind .ensures .1))
 
 pub validate-type-spec : {M : Type 1} → statement M
 validate-type-spec =
     tie.close
     (tie.spec
+    type-flag-requires
     type-name-requires
     validate-type-system-name-requires
     used-requires

@@ -3,16 +3,16 @@ use borrow.Author.Needs.{needs}
 use native.Mathlib.Omega.{arith}
 use mathlib.Core.Path.{_≡_, refl}
 use Prim.Native.Nat.{_≤_, _-_, _*_}
-use lib.ListN.{getD}
-use Rattle.rules.specs.Bounds.{mostOfType}
+use Rattle.validation.specs.Bounds.{mostOfType}
+use Rattle.rows.proofs.PartLaws.{type-count}
 use Rattle.records.proofs.Records.{each-zero, each-more, emit-none, emit-seq}
 use Rattle.records.specs.Records.{Emitted, each}
-use Rattle.rules.specs.Validation.{typeRecords}
+use Rattle.validation.specs.Validation.{typeRecords, countsOf}
 use Rattle.validation.proofs.validate.validate_types.Statement.{statement}
 use Rattle.validation.proofs.validate.validate_types.Tie as tie
 
 abbrev Inv-loop : tie.InvT-loop
-Inv-loop text words l order cycles out₀ types n₀ t₀ out n t = (t ≤ l .types) × (types ≡ l .types) × (n ≤ mostOfType * t) × Emitted (each (typeRecords text words (λ u. getD cycles u 0)) t) out₀ out n
+Inv-loop text words l order cycles out₀ types n₀ t₀ out n t = (t ≤ l .types) × (types ≡ l .types) × (n ≤ mostOfType * t) × Emitted (each (typeRecords text words (countsOf cycles)) t) out₀ out n
 
 abbrev μ-loop : tie.MeasureT-loop
 μ-loop text words l order cycles out₀ types n₀ t₀ out n t = l .types - t
@@ -58,13 +58,17 @@ loop-less c = search needs
 
 loop-again : tie.Need-loop-again Inv-loop μ-loop
 unfolding typeRecords
-loop-again c = (search needs, c .before .before .before .before .before .before .before .loop .inv .1, search needs, rw each-more (emit-seq _ _ _ _ _ _ _ _ (c .before .before .before .before .before .before .before .loop .inv .3) (c .before .before .before .before .before .used .ensures) (c .before .before .validate-type .ensures .0)))
+loop-again c =
+    let turn = c .before .before .before .before .before .before .before in
+    (search needs, turn .loop .inv .1, search needs, rw each-more (emit-seq _ _ _ _ _ _ _ _ (turn .loop .inv .3) (c .before .before .before .before .before .used .ensures) (c .before .before .validate-type .ensures .0)))
 
 same-length : tie.Need-same-length Inv-loop μ-loop
 same-length c = search needs
 
 returns : tie.Need-returns Inv-loop μ-loop
-returns c = let e : c .before .loop .t ≡ c .before .before .before .before .before .before .before .args .l .types = omega arith in (rw e at (c .before .loop .inv .3), omega (arith, c .before .before .before .before .before .before .before .pre .0 .sound .laid .types-most))
+returns c =
+    let entry = c .before .before .before .before .before .before .before in
+    let e : c .before .loop .t ≡ entry .args .l .types = omega arith in (rw (e, type-count _ _ (entry .pre .0 .readable .sound .laid)) at (c .before .loop .inv .3), omega (arith, entry .pre .0 .readable .sound .laid .types-most))
 
 pub validate-types-spec : {M : Type 1} → statement M
 validate-types-spec =

@@ -1,0 +1,104 @@
+// Field types, of an interface against the own: the wraps layer by layer from the outside, then the names.
+ghost use mathlib.Core.Path.{_≡_};
+ghost use Prim.Native.Nat.{_+_, _<_};
+ghost use Rattle.rows.specs.Readable.{SoundRows};
+ghost use Rattle.order.specs.Order.{Indexed};
+ghost use Rattle.comparing.specs.FieldTypes.{layerFits, layersFit, wrapsFit, hasEdge, hasObjectMember, namesMatch, fieldTypeFits};
+use names::wrap::Wrap;
+use order::find::look_up;
+use rows::parts::edges_of;
+use rows::parts::members_of;
+use rows::search::has_name;
+use rows::types::FoundType;
+use rows::types::type_kind;
+use table::kinds::Kind;
+use table::layout::Layout;
+use table::numbers::NameNo;
+use table::numbers::TypeRow;
+
+// A non-null interface layer needs a non-null own layer.
+fn layer_fits(wrap: Wrap, own: Wrap, layer: u32) -> bool
+    requires { ⌜ layer < 16 ⌝ }
+    ensures { λ r. ⌜ r ≡ layerFits (wrap .0) (own .0) layer ⌝ }
+{
+    !wrap.non_null(layer) | own.non_null(layer)
+}
+
+// From a layer on, with so many list layers left on each side: list meets list, name meets name. The layers left fall.
+fn layers_fit(wrap: Wrap, own: Wrap, layer: u32, left: u32, own_left: u32) -> bool
+    requires { ⌜ layer + left < 16 ⌝ }
+    ensures { λ r. ⌜ r ≡ layersFit (wrap .0) (own .0) layer left «own_left» ⌝ }
+{
+    if left == 0 {
+        if own_left == 0 {
+            return layer_fits(wrap, own, layer);
+        }
+        return false;
+    }
+    if own_left == 0 {
+        return false;
+    }
+    if layer_fits(wrap, own, layer) {
+        return layers_fit(wrap, own, layer + 1, left - 1, own_left - 1);
+    }
+    false
+}
+
+fn wraps_fit(wrap: Wrap, own: Wrap) -> bool
+    ensures { λ r. ⌜ r ≡ wrapsFit (wrap .0) (own .0) ⌝ }
+{
+    layers_fit(wrap, own, 0, wrap.list_layers(), own.list_layers())
+}
+
+// An interface, and an object or interface with an edge of its name.
+fn has_edge(words: &[u32], l: Layout, ty: TypeRow, name: NameNo, own: TypeRow) -> bool
+    requires { ⌜ SoundRows (now words) l ⌝ }
+    requires { ⌜ (ty .0 < l .types) × (own .0 < l .types) ⌝ }
+    ensures { λ r. ⌜ r ≡ hasEdge (now (words .entry)) (ty .0) (name .0) (own .0) ⌝ }
+{
+    (type_kind(words, l, ty) == Kind::INTERFACE)
+        & (Kind::is_composite(type_kind(words, l, own)) & has_name(edges_of(words, l, own), name))
+}
+
+// A union, and an object among its members.
+fn has_object_member(words: &[u32], l: Layout, ty: TypeRow, own: TypeRow, name: NameNo) -> bool
+    requires { ⌜ SoundRows (now words) l ⌝ }
+    requires { ⌜ (ty .0 < l .types) × (own .0 < l .types) ⌝ }
+    ensures { λ r. ⌜ r ≡ hasObjectMember (now (words .entry)) (ty .0) (own .0) (name .0) ⌝ }
+{
+    (type_kind(words, l, ty) == Kind::UNION)
+        & ((type_kind(words, l, own) == Kind::OBJECT) & has_name(members_of(words, l, ty), name))
+}
+
+// Names match if equal, or by an edge, or by a union.
+fn names_match(words: &[u32], l: Layout, order: &[u32], name: NameNo, own_name: NameNo) -> bool
+    requires { ⌜ Indexed (now words) l (now order) ⌝ }
+    ensures { λ r. ⌜ r ≡ namesMatch (now (words .entry)) (name .0) («own_name» .0) ⌝ }
+{
+    if name.same(own_name) {
+        return true;
+    }
+    let FoundType::At(ty) = look_up(words, l, order, name) else {
+        return false;
+    };
+    let FoundType::At(own) = look_up(words, l, order, own_name) else {
+        return false;
+    };
+    has_edge(words, l, ty, name, own) | has_object_member(words, l, ty, own, own_name)
+}
+
+// The own type does for the interface's (the Rust's is_valid_implementation_field_type).
+pub fn is_valid_implementation_field_type(
+    words: &[u32],
+    l: Layout,
+    order: &[u32],
+    name: NameNo,
+    wrap: Wrap,
+    own_name: NameNo,
+    own: Wrap,
+) -> bool
+    requires { ⌜ Indexed (now words) l (now order) ⌝ }
+    ensures { λ r. ⌜ r ≡ fieldTypeFits (now (words .entry)) (name .0) (wrap .0) («own_name» .0) (own .0) ⌝ }
+{
+    wraps_fit(wrap, own) & names_match(words, l, order, name, own_name)
+}

@@ -1,0 +1,3 @@
+pub mod Bounds
+pub mod Names
+pub mod InputObject

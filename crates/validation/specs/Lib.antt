@@ -1,0 +1,4 @@
+pub mod Bounds
+pub mod Object
+pub mod Validation
+pub mod Examples

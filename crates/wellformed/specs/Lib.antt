@@ -1,0 +1,4 @@
+pub mod WellFormed
+pub mod Answers
+pub mod Sound
+pub mod Examples

@@ -24,12 +24,15 @@ pub record Closed (at k : ℕ) (before after : List ℕ) : Type 0 where
   pub behind : (i : ℕ) → at ≤ i → length before ≤ i + k → getD after i 0 ≡ getD before i 0
   pub same-length : length after ≡ length before
 
--- five words with room for two opened behind the first, and those two taken out again
+-- five words, with room for two opened behind the first, and with the two behind the first taken out
 abbrev five : List ℕ
 five = 5 ∷ 6 ∷ 7 ∷ 8 ∷ 9 ∷ []
 
 abbrev spread : List ℕ
 spread = 5 ∷ 6 ∷ 7 ∷ 6 ∷ 7 ∷ []
+
+abbrev shut : List ℕ
+shut = 5 ∷ 8 ∷ 9 ∷ 8 ∷ 9 ∷ []
 
 opened-front : (i : ℕ) → i < 3 → getD spread i 0 ≡ getD five i 0
 opened-front zero h = refl
@@ -49,3 +52,32 @@ same-five = refl
 
 opened-two : Opened 1 2 five spread
 opened-two = record { front = opened-front; moved = opened-moved; same-length = same-five }
+
+closed-front : (i : ℕ) → i < 1 → getD shut i 0 ≡ getD five i 0
+closed-front zero h = refl
+closed-front (suc i) h = absurd (omega arith)
+
+closed-moved : (i : ℕ) → 1 ≤ i → i + 2 < 5 → getD shut i 0 ≡ getD five (i + 2) 0
+closed-moved zero h k = absurd (omega arith)
+closed-moved (suc zero) h k = refl
+closed-moved (suc (suc zero)) h k = refl
+closed-moved (suc (suc (suc i))) h k = absurd (omega arith)
+
+closed-behind : (i : ℕ) → 1 ≤ i → 5 ≤ i + 2 → getD shut i 0 ≡ getD five i 0
+closed-behind zero h k = absurd (omega arith)
+closed-behind (suc zero) h k = absurd (omega arith)
+closed-behind (suc (suc zero)) h k = absurd (omega arith)
+closed-behind (suc (suc (suc zero))) h k = refl
+closed-behind (suc (suc (suc (suc zero)))) h k = refl
+closed-behind (suc (suc (suc (suc (suc i))))) h k = refl
+
+same-shut : length shut ≡ length five
+same-shut = refl
+
+closed-two : Closed 1 2 five shut
+closed-two = record { front = closed-front; moved = closed-moved; behind = closed-behind; same-length = same-shut }
+
+-- the word of row 1 in a column that starts at word 1, one word a row
+set-one : withWord five (record { base = 1; width = 1; rows = 3 }) 1 4 ≡ 5 ∷ 6 ∷ 4 ∷ 8 ∷ 9 ∷ []
+unfolding withWord
+set-one = refl

@@ -16,7 +16,7 @@ mul-words : tie.Need-mul-words
 mul-words c = omega (arith, c .before .before .pre .0 (c .before .before .args .i) (c .before .before .pre .1))
 
 slice-write-words : tie.Need-slice-write-words
-slice-write-words c = c .before .before .pre .0 (c .before .before .args .i) (c .before .before .pre .1)
+slice-write-words c = omega (arith, c .before .before .pre .0 (c .before .before .args .i) (c .before .before .pre .1))
 
 same-length : tie.Need-same-length
 same-length c = search needs

@@ -31,9 +31,15 @@
  * Limits and sizes
  *
  *   At most LV_MOST_TYPES types, and the other limits below. A work table needs LV_WORK_WORDS words for each type, so LV_MOST_WORK always
- *   is enough; to make evidence it needs LV_EVIDENCE_WORDS for each, and so does the output, so LV_MOST_EVIDENCE always is enough. A list of records needs LV_RECORD_WORDS words for each record, a first cycle one word for each field, and never more words
- *   than there are types. Measured, not proved: a search for a cycle takes some 256 bytes of stack for each input object on its way, so
- *   260 KiB at 1,024 types.
+ *   is enough; to make evidence it needs LV_EVIDENCE_WORDS for each, and so does the output, so LV_MOST_EVIDENCE always is enough. A list of
+ *   records needs LV_RECORD_WORDS words for each record, a first cycle one word for each field, and never more words than there are types.
+ *
+ * Stack
+ *
+ *   LV_STACK_CHECK_TABLE and those behind it are the bytes of stack that a call takes below its caller's frame, its arguments and return
+ *   address among them. They are not proved: bench/stack.sh measures what the calls take, on x86-64, and holds it against them. A search
+ *   for a cycle goes as deep as there are input objects on its way, so two of them ask for the number of types; LV_MOST_TYPES always is
+ *   enough, since a table with more is refused before any search. What the caller and signal handlers take comes on top.
  *
  * The schema table
  *
@@ -71,6 +77,13 @@ extern "C" {
 #define LV_MOST_WORK 3072
 #define LV_EVIDENCE_WORDS 6
 #define LV_MOST_EVIDENCE 6144
+
+/* Bytes of stack, as bench/stack.sh measures them on x86-64, and a little more. */
+#define LV_STACK_CHECK_TABLE 4608UL
+#define LV_STACK_RECORDS(types) (45056UL + 160UL * (types))
+#define LV_STACK_FIRST_CYCLE(types) (29696UL + 160UL * (types))
+#define LV_STACK_CHECK_EVIDENCE 29696UL
+#define LV_STACK_MAKE_EVIDENCE 29696UL
 
 /* The most that a table may have. */
 #define LV_MOST_TEXT 65536

@@ -36,7 +36,7 @@ def parts(answer):
 def without_lets(body):
     """A body in which every name that a `let` gives to a path is the path again."""
     while True:
-        let = re.search(r"let (\w+) = (c(?: \.before)*(?: \.[\w·-]+| \.\d+)*) in\s*", body)
+        let = re.search(r"let ([\w·-]+) = (c(?: \.before)*(?: \.[\w·-]+| \.\d+)*) in\s*", body)
         if not let:
             return body
         word, path, rest = re.escape(let.group(1)), let.group(2), body[let.end():]

@@ -9,8 +9,9 @@ use Rattle.table.specs.Kinds.{inputObjectKind}
 use Rattle.table.specs.Layout.{nameCount, typeCount, edgeCount, typesAt, edgesAt, fieldsAt, wordAt, startAt}
 use Rattle.rows.specs.Search.{find}
 use Rattle.rows.specs.Types.{typeNamed, defined}
-use Rattle.chains.specs.Chains.{Chain, FirstCycle, NoCycle}
-use Rattle.chains.specs.Fields.{inputObjectNamed, chainTarget, chainsEnd, chainGraph}
+use Rattle.links.specs.Chains.{Chain}
+use Rattle.chains.specs.Cycles.{FirstCycle, NoCycle}
+use Rattle.links.specs.Fields.{inputObjectNamed, chainTarget, chainsEnd, chainGraph}
 use Rattle.chains.specs.Answer.{Settled}
 use Rattle.chains.specs.Search.{Fail.done, Fail.skip, Fail.enter, Find.here, Find.below}
 use Rattle.chains.specs.Boards.{selfWords, listWords, nullWords, tailWords, ringWords}

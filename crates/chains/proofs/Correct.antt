@@ -9,8 +9,9 @@ use mathlib.Core.List.{List·Memᴰ·cases-cons, List·Memᴰ·not-nil, List·Me
 use Prim.Native.Nat.{ℕ, suc, _≤_, _<_}
 use native.Mathlib.Omega.{arith}
 use lib.ListN.{length, getD, set}
-use Rattle.chains.specs.Chains.{Graph, Distinct, Distinct.none, Distinct.more, LexLe, LexLe.nil, LexLe.less, LexLe.same}
-use Rattle.chains.specs.Chains.{PathTo, PathTo.last, PathTo.step, FirstCycle, NoCycle}
+use Rattle.links.specs.Chains.{Graph}
+use Rattle.chains.specs.Cycles.{Distinct, Distinct.none, Distinct.more, LexLe, LexLe.nil, LexLe.less, LexLe.same}
+use Rattle.chains.specs.Cycles.{PathTo, PathTo.last, PathTo.step, FirstCycle, NoCycle}
 use Rattle.chains.specs.Search.{Fail, Fail.done, Fail.skip, Fail.enter, Find, Find.here, Find.below, Find.past, Find.later}
 use Rattle.chains.proofs.Marks.{HasMark, same-or-not, at-or-after, mark-same, mark-grows, mark-new, unmarked-old}
 

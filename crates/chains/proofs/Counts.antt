@@ -9,10 +9,11 @@ use native.Mathlib.Omega.{arith}
 use lib.ListN.{length}
 use Rattle.names.proofs.BoolLaws.{true-false, below-or-from}
 use Rattle.table.specs.Layout.{typeCount}
-use Rattle.chains.specs.Chains.{Graph, Chain, PathTo, PathTo.last, PathTo.step, FirstCycle, NoCycle}
-use Rattle.chains.specs.Fields.{isInputObject, chainGraph}
+use Rattle.links.specs.Chains.{Graph, Chain}
+use Rattle.chains.specs.Cycles.{PathTo, PathTo.last, PathTo.step, FirstCycle, NoCycle}
+use Rattle.links.specs.Fields.{isInputObject, chainGraph}
 use Rattle.chains.specs.Answer.{CycleRows, CycleCount}
-use Rattle.chains.proofs.FieldLaws.{end-right}
+use Rattle.links.proofs.FieldLaws.{end-right}
 use Rattle.chains.proofs.Order.{rows-unique, count-unique}
 use Rattle.chains.proofs.Total.{decided}
 

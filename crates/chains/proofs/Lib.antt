@@ -1,4 +1,3 @@
-pub mod FieldLaws
 pub mod Marks
 pub mod Correct
 pub mod Total
@@ -9,5 +8,5 @@ pub mod Top
 pub mod Counts
 pub mod BoardLaws
 pub mod ForgetLaws
-pub mod HelpLaws
+pub mod RestLaws
 pub mod SettleLaws

@@ -7,7 +7,7 @@ use native.Mathlib.Omega.{arith}
 use native.Mathlib.Decide.{ℕ-discrete}
 use lib.ListN.{length, getD, set, length-set}
 use lib.Seq.{getD-set-same, getD-set-other, drop-set-lt}
-use Rattle.chains.specs.Chains.{Graph}
+use Rattle.links.specs.Chains.{Graph}
 use Rattle.chains.specs.Search.{free, unit, OnlyMarks, Fail, Fail.done, Fail.skip, Fail.enter}
 
 -- numbers are the same, or not

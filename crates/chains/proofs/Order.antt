@@ -6,7 +6,8 @@ use mathlib.Core.List.{List, _∷_}
 use Prim.Native.Nat.{ℕ}
 use native.Mathlib.Omega.{arith}
 use lib.ListN.{length}
-use Rattle.chains.specs.Chains.{Graph, LexLe, LexLe.nil, LexLe.less, LexLe.same, FirstCycle, NoCycle}
+use Rattle.links.specs.Chains.{Graph}
+use Rattle.chains.specs.Cycles.{LexLe, LexLe.nil, LexLe.less, LexLe.same, FirstCycle, NoCycle}
 use Rattle.chains.specs.Answer.{CycleRows, CycleCount, CycleAnswered}
 
 pub lex-antisym : {fs gs : List ℕ} → LexLe fs gs → LexLe gs fs → fs ≡ gs

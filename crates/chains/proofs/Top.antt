@@ -7,7 +7,7 @@ use Prim.Native.Nat.{ℕ, suc, _+_, _≤_, _<_}
 use native.Mathlib.Omega.{arith}
 use lib.ListN.{length, getD, set, take, drop, length-set, take-append-drop}
 use lib.Seq.{getD-take, getD-set-same, getD-set-other, drop-set-lt, length-take-le, ext-getD}
-use Rattle.chains.specs.Chains.{Graph}
+use Rattle.links.specs.Chains.{Graph}
 use Rattle.chains.specs.Answer.{Shaped, Settled, unentered, Forgotten, CycleAnswered}
 use Rattle.chains.specs.Search.{MayWalk, OnlyMarks, stored, Walked}
 use Rattle.chains.proofs.Marks.{same-or-not, free-most, free-falls, unmarked-old, fail-only}

@@ -6,7 +6,8 @@ use mathlib.Core.List.{List, _∷_, []}
 use Prim.Native.Nat.{ℕ, suc, zero, _+_, _≤_, _<_}
 use native.Mathlib.Omega.{arith}
 use lib.ListN.{length, getD, set, length-set, replicate, length-replicate, getD-replicate}
-use Rattle.chains.specs.Chains.{Graph, FirstCycle, NoCycle}
+use Rattle.links.specs.Chains.{Graph}
+use Rattle.chains.specs.Cycles.{FirstCycle, NoCycle}
 use Rattle.chains.specs.Search.{free, Skipped, Opens, Fail, Fail.done, Fail.skip, Fail.enter, Find, Find.here, Find.below, Find.past, Find.later}
 use Rattle.chains.proofs.Marks.{same-or-not, free-le, free-falls}
 use Rattle.chains.proofs.Correct.{Good, blank-good, fail-fresh, no-cycle, first-cycle}

@@ -6,7 +6,7 @@ use Prim.Native.Nat.{ℕ, suc, _+_, _*_, _≤_, _<_}
 use native.Mathlib.Omega.{arith}
 use native.Mathlib.Numerals.{add-one}
 use lib.ListN.{length, getD, set, length-set}
-use Rattle.chains.specs.Chains.{Graph}
+use Rattle.links.specs.Chains.{Graph}
 use Rattle.chains.specs.Search.{free, Skipped, Opens, MayWalk, OnlyMarks, stored, Missed, Arrived, Walked}
 use Rattle.chains.specs.Search.{Fail, Fail.done, Fail.skip, Fail.enter, Find, Find.here, Find.below, Find.past, Find.later}
 use Rattle.chains.proofs.Marks.{free-falls, only-none, only-enter, only-join, fail-only}

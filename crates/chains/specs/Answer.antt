@@ -4,11 +4,10 @@ use mathlib.Core.Logic.{_⊎_, _≢_}
 use mathlib.Core.List.{List, [], _++_}
 use Prim.Native.Nat.{ℕ, zero, suc, _≤_, _<_}
 use lib.ListN.{length, take, drop}
-use Rattle.table.specs.declared.layout.Layout.{Layout}
 use Rattle.table.specs.Layout.{mostTypes, mostFields}
-use Rattle.order.specs.Order.{Indexed}
-use Rattle.chains.specs.Chains.{Graph, Chain, FirstCycle, NoCycle}
-use Rattle.chains.specs.Work.{orderAt, markOf, freeMark, enteredMark, settledMark}
+use Rattle.links.specs.Chains.{Graph, Chain}
+use Rattle.chains.specs.Cycles.{FirstCycle, NoCycle}
+use Rattle.chains.specs.Work.{trailAt, markOf, freeMark, enteredMark, settledMark}
 
 -- the graph is within the limits, and the fields of each type are among the rows, so many as there are
 pub record Shaped (g : Graph) (rows : ℕ) : Type 0 where
@@ -16,14 +15,9 @@ pub record Shaped (g : Graph) (rows : ℕ) : Type 0 where
   pub fields : rows ≤ mostFields
   pub within : (s : ℕ) → s < g .types → g .stop s ≤ rows
 
--- a table whose types can be looked up by the work words: these have marks and counts, and then the order of the types, or nothing
-pub record Helped (w : List ℕ) (l : Layout) (W : List ℕ) : Type 0 where
-  pub room : orderAt (l .types) ≤ length W
-  pub indexed : Indexed w l (drop (orderAt (l .types)) W)
-
 -- Each type has one of the three marks. No closed chain runs through a settled type, and it leads to settled types only.
 pub record Marking (g : Graph) (W : List ℕ) : Type 0 where
-  pub room : orderAt (g .types) ≤ length W
+  pub room : trailAt (g .types) ≤ length W
   pub most : (v : ℕ) → v < g .types → markOf W v ≤ settledMark
   pub closed : (v f u : ℕ) → v < g .types → markOf W v ≡ settledMark → Chain g v f u → markOf W u ≡ settledMark
   pub none : (v : ℕ) → v < g .types → markOf W v ≡ settledMark → NoCycle g v

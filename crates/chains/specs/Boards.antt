@@ -10,7 +10,7 @@ use Rattle.table.specs.Kinds.{inputObject, inputObjectKind}
 use Rattle.table.specs.Layout.{nameCount, typeCount, edgeCount, fieldCount, argumentCount, memberCount, valueCount, typesAt, edgesAt, fieldsAt, argumentsAt, membersAt, valuesAt, rootsAt, wordAt, startAt}
 use Rattle.wellformed.specs.WellFormed.{inLimits, rightLength, nameGood, nameRises, namesRight, below, wrapsGood, endsGood, rootGood, rootsGood, typesGood, allEndsGood, fieldsGood, argumentsGood, listsGood, sectionsFit, fieldFits, fieldsFit, sectionsAllFit, fieldsAllFit, wordsGood, rowsGood, fresh, distinct, runDistinct, rowsDistinct, rowsAllDistinct, namesDistinct, refusalLaid, refusal}
 use Rattle.table.specs.Tables.{nameRow, typeRow, fieldRow, noRoots, tableOf}
-use Rattle.chains.specs.Fields.{chainWrap}
+use Rattle.links.specs.Fields.{chainWrap}
 
 -- with every definition open
 computes : List ℕ → List ℕ → ℕ

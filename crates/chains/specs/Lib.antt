@@ -1,5 +1,4 @@
-pub mod Chains
-pub mod Fields
+pub mod Cycles
 pub mod Work
 pub mod Answer
 pub mod Search

@@ -6,8 +6,8 @@ use mathlib.Core.List.{List, _∷_, []}
 use Prim.Native.Nat.{ℕ, suc, zero, _+_, _≤_, _<_}
 use mathlib.Core.Logic.{_⊎_}
 use lib.ListN.{length, set, drop}
-use Rattle.chains.specs.Chains.{Graph}
-use Rattle.chains.specs.Work.{orderAt, markOf, freeMark, enteredMark}
+use Rattle.links.specs.Chains.{Graph}
+use Rattle.chains.specs.Work.{trailAt, markOf, freeMark, enteredMark}
 use Rattle.chains.specs.Answer.{Shaped}
 
 -- 1 for a free mark, and else 0
@@ -55,7 +55,7 @@ module _ (g : Graph) (t : ℕ) where
 pub record MayWalk (g : Graph) (rows s depth : ℕ) (W : List ℕ) : Type 0 where
   pub shaped : Shaped g rows
   pub type : s < g .types
-  pub room : orderAt (g .types) ≤ length W
+  pub room : trailAt (g .types) ≤ length W
   pub left : depth + 1 + free (g .types) W ≤ g .types
 
 -- the walk enters types, and changes nothing else: a mark that stood stays

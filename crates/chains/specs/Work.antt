@@ -12,9 +12,9 @@ workWords = 3
 abbrev pub countsAt : ℕ → ℕ
 countsAt types = types
 
--- where the types in the order of their names begin
-abbrev pub orderAt : ℕ → ℕ
-orderAt types = 2 * types
+-- where the trail of a walk begins, which says from where each type was entered
+abbrev pub trailAt : ℕ → ℕ
+trailAt types = 2 * types
 
 -- the mark of type t
 abbrev pub markOf : List ℕ → ℕ → ℕ
@@ -30,10 +30,10 @@ enteredMark = 1
 abbrev pub settledMark : ℕ
 settledMark = 2
 
--- the work table of two types: type 1 is settled, the first cycle of type 0 has 5 fields, and type 1 comes first in the order
+-- the work table of two types: type 1 is settled, the first cycle of type 0 has 5 fields, and type 0 was entered from type 1
 two-types : List ℕ
 two-types = freeMark ∷ settledMark ∷ 5 ∷ 0 ∷ 1 ∷ 0 ∷ []
 
-parts : (markOf two-types 1 ≡ settledMark) × (getD two-types (countsAt 2) 0 ≡ 5) × (drop (orderAt 2) two-types ≡ 1 ∷ 0 ∷ [])
+parts : (markOf two-types 1 ≡ settledMark) × (getD two-types (countsAt 2) 0 ≡ 5) × (drop (trailAt 2) two-types ≡ 1 ∷ 0 ∷ [])
 unfolding two-types
 parts = (refl, refl, refl)

@@ -3,11 +3,13 @@ ghost use mathlib.Core.Path.{_≡_};
 ghost use mathlib.Core.List.{_++_};
 ghost use Prim.Native.Nat.{_≤_, _<_};
 ghost use lib.ListN.{length, drop, replicate};
-ghost use Rattle.chains.specs.Fields.{chainGraph};
-ghost use Rattle.chains.specs.Answer.{Helped, Settled, CycleAnswered, Forgotten};
+ghost use Rattle.table.specs.Layout.{typeCount};
+ghost use Rattle.links.specs.Fields.{chainGraph};
+ghost use Rattle.links.specs.Links.{Linked};
+ghost use Rattle.chains.specs.Answer.{Settled, CycleAnswered, Forgotten};
 use crate::walk::walk_type;
 use crate::work::Mark;
-use table::layout::Layout;
+use table::layout::types_in;
 use table::numbers::TypeRow;
 
 // Sets the first n words to 0.
@@ -38,12 +40,18 @@ pub fn forget(work: &mut [u32], n: usize)
 
 // The number of fields of the first cycle of type t, whose rows are written to out in order, as many as there is room for; 0 where
 // t has no cycle. A settled type has none, and is not entered. The work words are left as they were.
-pub fn first_cycle(words: &[u32], l: Layout, t: TypeRow, work: &mut [u32], out: &mut [u32]) -> usize
-    requires { ⌜ Helped (now words) l (now work) ⌝ }
-    requires { ⌜ t .0 < l .types ⌝ }
+pub fn first_cycle(
+    words: &[u32],
+    targets: &[u16],
+    t: TypeRow,
+    work: &mut [u32],
+    out: &mut [u32],
+) -> usize
+    requires { ⌜ Linked (now words) (now targets) ⌝ }
+    requires { ⌜ t .0 < typeCount (now words) ⌝ }
     requires { ⌜ Settled (chainGraph (now words)) (now work) ⌝ }
     ensures { λ n. ⌜ CycleAnswered (chainGraph (now (words .entry))) (t .0) (now (out .entry)) (now (out .exit)) n ⌝ }
-    ensures { λ n. ⌜ n ≤ l .types ⌝ }
+    ensures { λ n. ⌜ n ≤ typeCount (now (words .entry)) ⌝ }
     ensures { λ n. ⌜ now (work .exit) ≡ now (work .entry) ⌝ }
 {
     let row = t.0 as usize;
@@ -51,7 +59,7 @@ pub fn first_cycle(words: &[u32], l: Layout, t: TypeRow, work: &mut [u32], out: 
         return 0;
     }
     work[row] = Mark::ENTERED.0;
-    let n = walk_type(words, l, t, t, 0, work, out);
-    forget(work, l.types);
+    let n = walk_type(words, targets, t, t, 0, work, out);
+    forget(work, types_in(words));
     n
 }

@@ -9,7 +9,6 @@
 // to marked types only, none of them the start, is no way back whoever marked them. So types that lead to no closed chain at all are marked once for
 // all searches (settle.rt), and none enters them.
 pub mod cycle;
-pub mod fields;
 pub mod settle;
 pub mod walk;
 pub mod work;

@@ -2,16 +2,15 @@
 ghost use mathlib.Core.Path.{_≡_};
 ghost use Prim.Native.Nat.{_<_};
 ghost use lib.ListN.{set};
-ghost use Rattle.table.specs.Layout.{fieldsStart, mostFields};
-ghost use Rattle.chains.specs.Fields.{chainGraph};
-ghost use Rattle.chains.specs.Answer.{Helped};
+ghost use Rattle.table.specs.Layout.{fieldCount, fieldsStart, mostFields};
+ghost use Rattle.links.specs.Fields.{chainGraph};
+ghost use Rattle.links.specs.Links.{Linked};
 ghost use Rattle.chains.specs.Search.{MayWalk, Walked};
-use crate::fields::chains_end;
-use crate::fields::target_by;
 use crate::work::Mark;
-use rows::parts::fields_start;
+use links::chains_end;
+use links::chains_start;
+use links::target;
 use rows::types::FoundType;
-use table::layout::Layout;
 use table::numbers::TypeRow;
 
 // Stores a field's row where there is room.
@@ -28,24 +27,33 @@ fn store(out: &mut [u32], at: usize, f: usize)
 // through marked types, and else how many fields lead to t; those behind the first `depth` are stored.
 pub fn walk_type(
     words: &[u32],
-    l: Layout,
+    targets: &[u16],
     t: TypeRow,
     s: TypeRow,
     depth: usize,
     work: &mut [u32],
     out: &mut [u32],
 ) -> usize
-    requires { ⌜ Helped (now words) l (now work) ⌝ }
-    requires { ⌜ MayWalk (chainGraph (now words)) (l .fields) (s .0) depth (now work) ⌝ }
+    requires { ⌜ Linked (now words) (now targets) ⌝ }
+    requires { ⌜ MayWalk (chainGraph (now words)) (fieldCount (now words)) (s .0) depth (now work) ⌝ }
     ensures { λ n. ⌜ Walked (chainGraph (now (words .entry))) (t .0) (s .0) (fieldsStart (now (words .entry)) (s .0)) depth (now (work .entry)) (now (work .exit)) (now (out .entry)) (now (out .exit)) n ⌝ }
 {
-    walk_fields(words, l, t, s, fields_start(words, l, s), depth, work, out)
+    walk_fields(
+        words,
+        targets,
+        t,
+        s,
+        chains_start(words, s),
+        depth,
+        work,
+        out,
+    )
 }
 
 // The same for the fields of s from `first` on: each type that they lead to is entered where it is not marked.
 fn walk_fields(
     words: &[u32],
-    l: Layout,
+    targets: &[u16],
     t: TypeRow,
     s: TypeRow,
     first: usize,
@@ -53,14 +61,14 @@ fn walk_fields(
     work: &mut [u32],
     out: &mut [u32],
 ) -> usize
-    requires { ⌜ Helped (now words) l (now work) ⌝ }
-    requires { ⌜ MayWalk (chainGraph (now words)) (l .fields) (s .0) depth (now work) ⌝ }
+    requires { ⌜ Linked (now words) (now targets) ⌝ }
+    requires { ⌜ MayWalk (chainGraph (now words)) (fieldCount (now words)) (s .0) depth (now work) ⌝ }
     ensures { λ n. ⌜ Walked (chainGraph (now (words .entry))) (t .0) (s .0) first depth (now (work .entry)) (now (work .exit)) (now (out .entry)) (now (out .exit)) n ⌝ }
 {
-    let end = chains_end(words, l, s);
+    let end = chains_end(words, s);
     let mut f = first;
     while f < end {
-        if let FoundType::At(u) = target_by(words, l, work, f) {
+        if let FoundType::At(u) = target(words, targets, f) {
             if u.same(t) {
                 store(out, depth, f);
                 return depth + 1;
@@ -68,7 +76,7 @@ fn walk_fields(
             let row = u.0 as usize;
             if work[row] == Mark::FREE.0 {
                 work[row] = Mark::ENTERED.0;
-                let n = walk_type(words, l, t, u, depth + 1, work, out);
+                let n = walk_type(words, targets, t, u, depth + 1, work, out);
                 if n != 0 {
                     store(out, depth, f);
                     return n;

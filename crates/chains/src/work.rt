@@ -2,9 +2,9 @@
 ghost use mathlib.Core.Path.{_≡_};
 ghost use Prim.Native.Nat.{_*_, _≤_};
 ghost use Rattle.table.specs.Layout.{mostTypes};
-ghost use Rattle.chains.specs.Work.{workWords, countsAt, orderAt};
+ghost use Rattle.chains.specs.Work.{workWords, countsAt, trailAt};
 
-// The work table for so many types: first their marks, then the counts of their first cycles, last the types in the order of their names.
+// The work table for so many types: first their marks, then the counts of their first cycles, last the trail of a walk: from where each type was entered.
 pub struct Work {
     pub types: usize,
 }
@@ -28,10 +28,10 @@ impl Work {
         self.types
     }
 
-    // Where the order of the types begins.
-    pub fn order_at(self) -> usize
+    // Where the trail begins.
+    pub fn trail_at(self) -> usize
         requires { ⌜ self .types ≤ mostTypes ⌝ }
-        ensures { λ r. ⌜ r ≡ orderAt (self .types) ⌝ }
+        ensures { λ r. ⌜ r ≡ trailAt (self .types) ⌝ }
     {
         2 * self.types
     }

@@ -1,2 +1,3 @@
 pub mod LayerLaws
+pub mod KindLaws
 pub mod FieldTypeLaws

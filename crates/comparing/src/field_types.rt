@@ -1,14 +1,12 @@
 // Field types, of an interface against the own: the wraps layer by layer from the outside, then the names.
 ghost use mathlib.Core.Path.{_≡_};
 ghost use Prim.Native.Nat.{_+_, _<_};
-ghost use Rattle.rows.specs.Readable.{SoundRows};
-ghost use Rattle.order.specs.Order.{Indexed};
+ghost use Rattle.rising.specs.Lists.{Sorted, Findable};
 ghost use Rattle.comparing.specs.FieldTypes.{layerFits, layersFit, wrapsFit, hasEdge, hasObjectMember, namesMatch, fieldTypeFits};
 use names::wrap::Wrap;
-use order::find::look_up;
-use rows::parts::edges_of;
-use rows::parts::members_of;
-use rows::search::has_name;
+use rising::lists::is_edge_of;
+use rising::lists::is_member_of;
+use rows::index::look_up;
 use rows::types::FoundType;
 use rows::types::type_kind;
 use table::kinds::Kind;
@@ -51,54 +49,86 @@ fn wraps_fit(wrap: Wrap, own: Wrap) -> bool
 }
 
 // An interface, and an object or interface with an edge of its name.
-fn has_edge(words: &[u32], l: Layout, ty: TypeRow, name: NameNo, own: TypeRow) -> bool
-    requires { ⌜ SoundRows (now words) l ⌝ }
+fn has_edge(
+    words: &[u32],
+    l: Layout,
+    lists: &[u16],
+    ty: TypeRow,
+    name: NameNo,
+    own: TypeRow,
+) -> bool
+    requires { ⌜ Sorted (now words) l (now lists) ⌝ }
     requires { ⌜ (ty .0 < l .types) × (own .0 < l .types) ⌝ }
     ensures { λ r. ⌜ r ≡ hasEdge (now (words .entry)) (ty .0) (name .0) (own .0) ⌝ }
 {
-    (type_kind(words, l, ty) == Kind::INTERFACE)
-        & (Kind::is_composite(type_kind(words, l, own)) & has_name(edges_of(words, l, own), name))
+    if (type_kind(words, l, ty) == Kind::INTERFACE) & Kind::is_composite(type_kind(words, l, own)) {
+        return is_edge_of(words, l, lists, name, own);
+    }
+    false
 }
 
 // A union, and an object among its members.
-fn has_object_member(words: &[u32], l: Layout, ty: TypeRow, own: TypeRow, name: NameNo) -> bool
-    requires { ⌜ SoundRows (now words) l ⌝ }
+fn has_object_member(
+    words: &[u32],
+    l: Layout,
+    lists: &[u16],
+    ty: TypeRow,
+    own: TypeRow,
+    name: NameNo,
+) -> bool
+    requires { ⌜ Sorted (now words) l (now lists) ⌝ }
     requires { ⌜ (ty .0 < l .types) × (own .0 < l .types) ⌝ }
     ensures { λ r. ⌜ r ≡ hasObjectMember (now (words .entry)) (ty .0) (own .0) (name .0) ⌝ }
 {
-    (type_kind(words, l, ty) == Kind::UNION)
-        & ((type_kind(words, l, own) == Kind::OBJECT) & has_name(members_of(words, l, ty), name))
+    if (type_kind(words, l, ty) == Kind::UNION) & (type_kind(words, l, own) == Kind::OBJECT) {
+        return is_member_of(words, l, lists, name, ty);
+    }
+    false
 }
 
 // Names match if equal, or by an edge, or by a union.
-fn names_match(words: &[u32], l: Layout, order: &[u32], name: NameNo, own_name: NameNo) -> bool
-    requires { ⌜ Indexed (now words) l (now order) ⌝ }
+fn names_match(
+    words: &[u32],
+    l: Layout,
+    index: &[u16],
+    lists: &[u16],
+    name: NameNo,
+    own_name: NameNo,
+) -> bool
+    requires { ⌜ Findable (now words) l (now index) (now lists) ⌝ }
     ensures { λ r. ⌜ r ≡ namesMatch (now (words .entry)) (name .0) («own_name» .0) ⌝ }
 {
     if name.same(own_name) {
         return true;
     }
-    let FoundType::At(ty) = look_up(words, l, order, name) else {
+    let FoundType::At(ty) = look_up(words, l, index, name) else {
         return false;
     };
-    let FoundType::At(own) = look_up(words, l, order, own_name) else {
+    let FoundType::At(own) = look_up(words, l, index, own_name) else {
         return false;
     };
-    has_edge(words, l, ty, name, own) | has_object_member(words, l, ty, own, own_name)
+    if has_edge(words, l, lists, ty, name, own) {
+        return true;
+    }
+    has_object_member(words, l, lists, ty, own, own_name)
 }
 
 // The own type does for the interface's (the Rust's is_valid_implementation_field_type).
 pub fn is_valid_implementation_field_type(
     words: &[u32],
     l: Layout,
-    order: &[u32],
+    index: &[u16],
+    lists: &[u16],
     name: NameNo,
     wrap: Wrap,
     own_name: NameNo,
     own: Wrap,
 ) -> bool
-    requires { ⌜ Indexed (now words) l (now order) ⌝ }
+    requires { ⌜ Findable (now words) l (now index) (now lists) ⌝ }
     ensures { λ r. ⌜ r ≡ fieldTypeFits (now (words .entry)) (name .0) (wrap .0) («own_name» .0) (own .0) ⌝ }
 {
-    wraps_fit(wrap, own) & names_match(words, l, order, name, own_name)
+    if wraps_fit(wrap, own) {
+        return names_match(words, l, index, lists, name, own_name);
+    }
+    false
 }

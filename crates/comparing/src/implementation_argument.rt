@@ -7,7 +7,11 @@ ghost use Rattle.rows.specs.Readable.{SoundRows};
 ghost use Rattle.comparing.specs.Arguments.{sameType, implementingArguments};
 ghost use Rattle.comparing.specs.Arguments.{demandedArgument, demandedArguments, ownArgument, ownArguments};
 ghost use Rattle.comparing.specs.Bounds.{mostOfInterfaceField};
+ghost use Rattle.lookup.specs.Cells.{ArgumentsNamed, ArgumentsHelped};
 ghost use Rattle.table.specs.Layout.{mostArguments};
+use lookup::arguments::has_few;
+use lookup::arguments::index_arguments;
+use lookup::arguments::look_up_argument;
 use records::Record;
 use records::put;
 use records::used;
@@ -19,7 +23,6 @@ use rows::cells::argument_wrap;
 use rows::parts::arguments_of;
 use rows::parts::arguments_start;
 use rows::search::Found;
-use rows::search::find_argument;
 use table::layout::Layout;
 use table::numbers::TypeRow;
 
@@ -45,6 +48,7 @@ fn validate_interface_argument(
     pair: FieldPair,
     first: usize,
     arguments: &[u32],
+    cells: &[u16],
     interface_first: usize,
     interface_arguments: &[u32],
     i: usize,
@@ -52,11 +56,13 @@ fn validate_interface_argument(
 ) -> usize
     requires { ⌜ (first + argumentRows (now arguments) ≤ mostArguments) × («interface_first» + argumentRows (now «interface_arguments») ≤ mostArguments) ⌝ }
     requires { ⌜ i < argumentRows (now «interface_arguments») ⌝ }
+    requires { ⌜ ArgumentsHelped (now arguments) (now cells) ⌝ }
     ensures { λ n. ⌜ Emitted (demandedArgument pair first (now (arguments .entry)) «interface_first» (now («interface_arguments» .entry)) i) (now (out .entry)) (now (out .exit)) n ⌝ }
     ensures { λ n. ⌜ n ≤ 1 ⌝ }
 {
     let row = (interface_first + i) as u32;
-    let Found::At(own) = find_argument(arguments, argument_name(interface_arguments, i)) else {
+    let Found::At(own) = look_up_argument(arguments, cells, argument_name(interface_arguments, i))
+    else {
         return put(
             out,
             Record::missing_interface_field_argument(pair.ty, pair.edge, pair.own_field, row),
@@ -76,15 +82,18 @@ fn validate_interface_argument(
     )
 }
 
-fn validate_interface_arguments(
+// Each argument of the interface's field; the cells are those of the own field, or none.
+fn validate_each_interface_argument(
     pair: FieldPair,
     first: usize,
     arguments: &[u32],
+    cells: &[u16],
     interface_first: usize,
     interface_arguments: &[u32],
     out: &mut [u32],
 ) -> usize
     requires { ⌜ (first + argumentRows (now arguments) ≤ mostArguments) × («interface_first» + argumentRows (now «interface_arguments») ≤ mostArguments) ⌝ }
+    requires { ⌜ ArgumentsHelped (now arguments) (now cells) ⌝ }
     ensures { λ n. ⌜ Emitted (demandedArguments pair first (now (arguments .entry)) «interface_first» (now («interface_arguments» .entry))) (now (out .entry)) (now (out .exit)) n ⌝ }
     ensures { λ n. ⌜ n ≤ mostArguments ⌝ }
 {
@@ -97,6 +106,7 @@ fn validate_interface_arguments(
             pair,
             first,
             arguments,
+            cells,
             interface_first,
             interface_arguments,
             i,
@@ -107,21 +117,63 @@ fn validate_interface_arguments(
     n
 }
 
+// Each is looked for among all of the own field, so where both fields have many, the own are noted in cells first. Where one of them has
+// few, a walk reads few words for each argument of the other.
+fn validate_interface_arguments(
+    pair: FieldPair,
+    first: usize,
+    arguments: &[u32],
+    interface_first: usize,
+    interface_arguments: &[u32],
+    out: &mut [u32],
+) -> usize
+    requires { ⌜ (first + argumentRows (now arguments) ≤ mostArguments) × («interface_first» + argumentRows (now «interface_arguments») ≤ mostArguments) ⌝ }
+    requires { ⌜ ArgumentsNamed (now arguments) ⌝ }
+    ensures { λ n. ⌜ Emitted (demandedArguments pair first (now (arguments .entry)) «interface_first» (now («interface_arguments» .entry))) (now (out .entry)) (now (out .exit)) n ⌝ }
+    ensures { λ n. ⌜ n ≤ mostArguments ⌝ }
+{
+    if has_few(arguments) | has_few(interface_arguments) {
+        return validate_each_interface_argument(
+            pair,
+            first,
+            arguments,
+            &[],
+            interface_first,
+            interface_arguments,
+            out,
+        );
+    }
+    let mut cells = [0; 4096];
+    index_arguments(arguments, &mut cells);
+    validate_each_interface_argument(
+        pair,
+        first,
+        arguments,
+        &cells,
+        interface_first,
+        interface_arguments,
+        out,
+    )
+}
+
 // 13 for an own argument that the interface's field lacks, non-null outermost and without default.
 fn validate_extra_argument(
     pair: FieldPair,
     first: usize,
     arguments: &[u32],
     interface_arguments: &[u32],
+    cells: &[u16],
     i: usize,
     out: &mut [u32],
 ) -> usize
     requires { ⌜ first + argumentRows (now arguments) ≤ mostArguments ⌝ }
     requires { ⌜ i < argumentRows (now arguments) ⌝ }
+    requires { ⌜ ArgumentsHelped (now «interface_arguments») (now cells) ⌝ }
     ensures { λ n. ⌜ Emitted (ownArgument pair first (now (arguments .entry)) (now («interface_arguments» .entry)) i) (now (out .entry)) (now (out .exit)) n ⌝ }
     ensures { λ n. ⌜ n ≤ 1 ⌝ }
 {
-    let Found::Nothing = find_argument(interface_arguments, argument_name(arguments, i)) else {
+    let Found::Nothing = look_up_argument(interface_arguments, cells, argument_name(arguments, i))
+    else {
         return 0;
     };
     if argument_wrap(arguments, i).non_null(0) & (argument_default(arguments, i) == 0) {
@@ -138,14 +190,17 @@ fn validate_extra_argument(
     0
 }
 
-fn validate_extra_arguments(
+// Each own argument; the cells are those of the interface's field, or none.
+fn validate_each_extra_argument(
     pair: FieldPair,
     first: usize,
     arguments: &[u32],
     interface_arguments: &[u32],
+    cells: &[u16],
     out: &mut [u32],
 ) -> usize
     requires { ⌜ first + argumentRows (now arguments) ≤ mostArguments ⌝ }
+    requires { ⌜ ArgumentsHelped (now «interface_arguments») (now cells) ⌝ }
     ensures { λ n. ⌜ Emitted (ownArguments pair first (now (arguments .entry)) (now («interface_arguments» .entry))) (now (out .entry)) (now (out .exit)) n ⌝ }
     ensures { λ n. ⌜ n ≤ mostArguments ⌝ }
 {
@@ -159,12 +214,34 @@ fn validate_extra_arguments(
             first,
             arguments,
             interface_arguments,
+            cells,
             i,
             &mut out[at..],
         );
         i += 1;
     }
     n
+}
+
+// The same the other way round: the interface's are noted.
+fn validate_extra_arguments(
+    pair: FieldPair,
+    first: usize,
+    arguments: &[u32],
+    interface_arguments: &[u32],
+    out: &mut [u32],
+) -> usize
+    requires { ⌜ first + argumentRows (now arguments) ≤ mostArguments ⌝ }
+    requires { ⌜ ArgumentsNamed (now «interface_arguments») ⌝ }
+    ensures { λ n. ⌜ Emitted (ownArguments pair first (now (arguments .entry)) (now («interface_arguments» .entry))) (now (out .entry)) (now (out .exit)) n ⌝ }
+    ensures { λ n. ⌜ n ≤ mostArguments ⌝ }
+{
+    if has_few(arguments) | has_few(interface_arguments) {
+        return validate_each_extra_argument(pair, first, arguments, interface_arguments, &[], out);
+    }
+    let mut cells = [0; 4096];
+    index_arguments(interface_arguments, &mut cells);
+    validate_each_extra_argument(pair, first, arguments, interface_arguments, &cells, out)
 }
 
 // The arguments of the own field against those of the interface's field.

@@ -7,7 +7,8 @@ use mathlib.Core.List.{List}
 use mathlib.Core.Bool.{Bool, true}
 use Prim.Native.Nat.{ℕ, _≤_, _<_}
 use native.Mathlib.Omega.{arith}
-use Rattle.chains.specs.Chains.{Graph, Chain, PathTo, PathTo.last, PathTo.step}
+use Rattle.links.specs.Chains.{Graph, Chain}
+use Rattle.chains.specs.Cycles.{PathTo, PathTo.last, PathTo.step}
 use Rattle.table.specs.Layout.{none}
 use Rattle.evidence.specs.Words.{leader, outField, inField}
 use Rattle.evidence.specs.Rules.{Passes}

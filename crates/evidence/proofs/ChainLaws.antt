@@ -17,9 +17,10 @@ use Rattle.rows.specs.declared.types.FoundType.the-variants.{At, Nothing}
 use Rattle.rows.specs.Types.{foundAt}
 use Rattle.rows.specs.Readable.{SoundRows}
 use Rattle.rows.proofs.FoundTypes.{at-below, at-row, nothing-none}
-use Rattle.chains.specs.Chains.{Graph, PathTo, PathTo.last, PathTo.step}
-use Rattle.chains.specs.Fields.{isInputObject, chainsEnd, chainGraph}
-use Rattle.chains.proofs.FieldLaws.{chain-field, field-chain}
+use Rattle.links.specs.Chains.{Graph}
+use Rattle.chains.specs.Cycles.{PathTo, PathTo.last, PathTo.step}
+use Rattle.links.specs.Fields.{isInputObject, chainsEnd, chainGraph}
+use Rattle.links.proofs.FieldLaws.{chain-field, field-chain}
 use Rattle.evidence.specs.Rules.{nearer, chainField, comesIn}
 use Rattle.evidence.specs.Reaches.{Reaches, FieldsTo, FieldsTo.last, FieldsTo.step}
 use Rattle.evidence.specs.ChainTo.{chainTo}

@@ -6,7 +6,8 @@ use mathlib.Core.List.{List}
 use mathlib.Core.Bool.{Bool, true, false, true≢false}
 use Prim.Native.Nat.{ℕ, suc, zero, _+_, _≤_, _<_}
 use native.Mathlib.Omega.{arith}
-use Rattle.chains.specs.Chains.{Graph, Chain, PathTo, PathTo.last, PathTo.step}
+use Rattle.links.specs.Chains.{Graph, Chain}
+use Rattle.chains.specs.Cycles.{PathTo, PathTo.last, PathTo.step}
 use Rattle.evidence.specs.Rules.{chainField}
 use Rattle.evidence.specs.Reaches.{Reaches}
 use Rattle.evidence.specs.Canonical.{Count, Count.empty, Count.with, Count.without, Least, Way, Way.here, Way.more, Other, Mutual}

@@ -6,7 +6,7 @@ use Prim.Native.Nat.{ℕ, _≤_, _<_}
 use native.Mathlib.Omega.{arith}
 use Rattle.table.specs.Layout.{none, typeCount}
 use Rattle.wellformed.specs.Sound.{Sound}
-use Rattle.chains.specs.Fields.{isInputObject, chainGraph}
+use Rattle.links.specs.Fields.{isInputObject, chainGraph}
 use Rattle.evidence.specs.declared.judged.Judged.{Judged}
 use Rattle.evidence.specs.declared.judged.Judged.the-variants.{Pass, Broken}
 use Rattle.evidence.specs.Judged.{KeepsRules, judgedOf, FirstBroken}

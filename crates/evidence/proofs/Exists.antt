@@ -9,7 +9,7 @@ use Prim.Native.Nat.{ℕ, suc, zero, _+_, _*_, _<_}
 use native.Mathlib.Omega.{arith}
 use lib.ListN.{length, getD, length-append, List·getD-append}
 use lib.Seq.{getD-append-add}
-use Rattle.chains.specs.Chains.{Graph, Chain}
+use Rattle.links.specs.Chains.{Graph, Chain}
 use Rattle.table.specs.Layout.{none}
 use Rattle.evidence.specs.Words.{evidenceWords, number, leader, outField, outDistance, inField, inDepth}
 use Rattle.evidence.specs.Rules.{any, goesOut, comesIn}

@@ -8,7 +8,7 @@ use native.Mathlib.Omega.{arith}
 use Rattle.evidence.specs.declared.judged.Judged.{Judged}
 use Rattle.evidence.specs.declared.judged.Judged.the-variants.{Pass, Broken}
 use Rattle.table.specs.declared.numbers.TypeRow.{TypeRow}
-use Rattle.chains.specs.Chains.{Graph}
+use Rattle.links.specs.Chains.{Graph}
 use Rattle.evidence.specs.Rules.{lowest, Passes}
 use Rattle.evidence.specs.Judged.{judgedRow, orNext, judgedTo, judged, FirstBroken}
 use Rattle.evidence.proofs.TestLaws.{last-or-below}

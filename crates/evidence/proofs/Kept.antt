@@ -6,7 +6,7 @@ use mathlib.Core.Bool.{Bool, true, false, not, Bool·beq}
 use Prim.Native.Nat.{ℕ, _+_, _≤_, _<_}
 use lib.Dec.{leb, ltb, eqb}
 use borrow.Author.Tests.{ltb-true, leb-true, eqb-true, eqb-false, not-true, not-false, lt-ltb, le-leb, eq-eqb, ne-eqb}
-use Rattle.chains.specs.Chains.{Graph, Chain}
+use Rattle.links.specs.Chains.{Graph, Chain}
 use Rattle.table.specs.Layout.{none}
 use Rattle.evidence.specs.Words.{number, leader, outField, outDistance, inField, inDepth, marked, leads}
 use Rattle.evidence.specs.Rules.{implies, any, nearer, chainField, goesOut, comesIn, falls, rule1, rule2, rule3, rule4, rule5, rule6, rule7, lowest}

@@ -8,7 +8,7 @@ use Prim.Native.Nat.{ℕ, suc, zero, _+_, _*_, _/_, _%_, _<_}
 use native.Mathlib.Omega.{arith}
 use lib.ListN.{getD}
 use lib.Seq.{ext-getD}
-use Rattle.chains.specs.Chains.{Graph}
+use Rattle.links.specs.Chains.{Graph}
 use Rattle.evidence.specs.Words.{evidenceWords, leader, outField, outDistance, inField, inDepth}
 use Rattle.evidence.specs.Rules.{any, goesOut, comesIn}
 use Rattle.evidence.specs.Canonical.{Way, On, Marks, Marks.on, Marks.off, Canonical}

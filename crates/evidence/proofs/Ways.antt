@@ -2,7 +2,8 @@
 use mathlib.Core.Path.{_≡_, refl}
 use mathlib.Core.List.{List}
 use Prim.Native.Nat.{ℕ, suc, _<_}
-use Rattle.chains.specs.Chains.{Graph, Chain, PathTo, PathTo.last, PathTo.step}
+use Rattle.links.specs.Chains.{Graph, Chain}
+use Rattle.chains.specs.Cycles.{PathTo, PathTo.last, PathTo.step}
 use Rattle.evidence.specs.Reaches.{Reaches}
 use Rattle.evidence.specs.Canonical.{Least, Way, Way.here, Way.more, Mutual}
 use Rattle.evidence.proofs.Counts.{least-unique}

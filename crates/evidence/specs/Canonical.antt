@@ -5,7 +5,7 @@ use mathlib.Core.Bool.{true}
 use mathlib.Core.List.{List}
 use Prim.Native.Nat.{ℕ, suc, _*_, _≤_, _<_}
 use lib.ListN.{length}
-use Rattle.chains.specs.Chains.{Graph, Chain}
+use Rattle.links.specs.Chains.{Graph, Chain}
 use Rattle.table.specs.Layout.{none}
 use Rattle.evidence.specs.Words.{evidenceWords, number, leader, outField, outDistance, inField, inDepth}
 use Rattle.evidence.specs.Rules.{any, goesOut, comesIn}

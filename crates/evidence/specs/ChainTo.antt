@@ -5,7 +5,7 @@ use lib.Dec.{leb, ltb}
 use Rattle.rows.specs.declared.types.FoundType.{FoundType}
 use Rattle.rows.specs.declared.types.FoundType.the-variants.{Nothing}
 use Rattle.rows.specs.Types.{foundAt}
-use Rattle.chains.specs.Chains.{Graph}
+use Rattle.links.specs.Chains.{Graph}
 
 -- the type that field f leads to as a chain field of t, where it is one
 unfoldable pub chainTo : Graph → ℕ → ℕ → FoundType

@@ -8,7 +8,7 @@ use Rattle.table.specs.Layout.{none, nameCount, typeCount, edgeCount, fieldCoun
 use Rattle.rows.specs.Search.{find}
 use Rattle.rows.specs.Types.{typeNamed, defined}
 use Rattle.chains.specs.Boards.{tailWords}
-use Rattle.chains.specs.Fields.{inputObjectNamed, chainTarget, chainsEnd}
+use Rattle.links.specs.Fields.{inputObjectNamed, chainTarget, chainsEnd}
 use Rattle.evidence.specs.declared.judged.Judged.{Judged}
 use Rattle.evidence.specs.declared.judged.Judged.the-variants.{Pass, Broken}
 use Rattle.evidence.specs.Rules.{any, rule1, rule2, rule3, rule4, rule5, rule6, rule7, lowest}

@@ -5,8 +5,8 @@ use mathlib.Core.List.{List}
 use mathlib.Core.Bool.{Bool}
 use Prim.Native.Nat.{ℕ, suc, zero, _<_}
 use Rattle.table.specs.Layout.{none}
-use Rattle.chains.specs.Chains.{Graph}
-use Rattle.chains.specs.Fields.{isInputObject, chainGraph}
+use Rattle.links.specs.Chains.{Graph}
+use Rattle.links.specs.Fields.{isInputObject, chainGraph}
 use Rattle.evidence.specs.declared.judged.Judged.{Judged}
 use Rattle.evidence.specs.declared.judged.Judged.the-variants.{Pass, Broken}
 use Rattle.evidence.specs.Rules.{lowest, Passes}

@@ -1,8 +1,9 @@
 -- Document 01, "Chains of input objects": types that chain fields reach, and closed chains.
 use mathlib.Core.List.{List}
 use Prim.Native.Nat.{ℕ}
-use Rattle.chains.specs.Chains.{Graph, PathTo}
-use Rattle.chains.specs.Fields.{ChainField}
+use Rattle.links.specs.Chains.{Graph}
+use Rattle.chains.specs.Cycles.{PathTo}
+use Rattle.links.specs.Fields.{ChainField}
 
 module _ (g : Graph) where
   -- one or more chain fields lead from t to u

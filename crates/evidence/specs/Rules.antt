@@ -7,7 +7,7 @@ use lib.Dec.{leb, ltb, eqb}
 use Rattle.names.specs.Count.{every}
 use Rattle.table.specs.Layout.{none}
 use Rattle.wellformed.specs.WellFormed.{unless}
-use Rattle.chains.specs.Chains.{Graph}
+use Rattle.links.specs.Chains.{Graph}
 use Rattle.evidence.specs.Words.{number, leader, outField, outDistance, inField, inDepth, marked, leads}
 
 -- where the first test holds, so does the second

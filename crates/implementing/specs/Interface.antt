@@ -1,19 +1,18 @@
 -- Edges: 3; 8; 9; 10; 11 or 12 per interface argument, then 13. Type t has the edges `edges` from row `edgesFirst` on, and the fields `fields`
 -- from row `fieldsFirst` on. 8 to 13 run over defined edges only: viaEdge is such an edge's row, and interfaceType the row of its type.
--- What the interface asks for, its edges, fields or arguments, are `demanded`, from row `demandedFirst` on.
+-- What the interface asks for, its edges, are `demanded`, from row `demandedFirst` on.
 use mathlib.Core.Bool.{Bool, not}
 use mathlib.Core.List.{List, _∷_, [], _++_}
 use Prim.Native.Nat.{ℕ, _+_}
-use lib.Dec.{eqb, ltb}
-use Rattle.table.specs.Layout.{typeName, edgesStart, fieldsStart}
+use lib.Dec.{eqb}
+use Rattle.table.specs.Layout.{typeName, edgesStart}
 use Rattle.records.specs.declared.Record.{Record}
 use Rattle.records.specs.Records.{each, when}
-use Rattle.records.specs.Rows.{undefinedDefinition, recursiveInterfaceDefinition, transitiveImplementedInterfaces, missingInterfaceField, invalidImplementationFieldType, atEdge}
+use Rattle.records.specs.Rows.{undefinedDefinition, recursiveInterfaceDefinition, transitiveImplementedInterfaces, atEdge}
 use Rattle.rows.specs.Search.{contains}
 use Rattle.rows.specs.Types.{isInterface, typeNamed}
-use Rattle.rows.specs.Parts.{edgesOf, fieldsOf, edgeRows, edgeNameIn, fieldRows, fieldNameIn, fieldTypeIn, fieldWrapIn, fieldNamed}
-use Rattle.comparing.specs.FieldTypes.{fieldTypeFits}
-use Rattle.comparing.specs.Arguments.{implementingArguments}
+use Rattle.rows.specs.Parts.{edgesOf, edgeRows, edgeNameIn}
+use Rattle.matching.specs.Fields.{interfaceFields, missingField, fieldTypeRecord, fieldArguments}
 
 -- 6 for an edge that names the type itself
 unfoldable pub selfEdge : (w : List ℕ) (t edgesFirst : ℕ) (edges : List ℕ) (i : ℕ) → List Record
@@ -33,10 +32,6 @@ unfoldable pub definedEdges : (f : ℕ → ℕ → List Record) (w : List ℕ) (
 definedEdges f w edgesFirst edges =
     each (λ i. when (isInterface w (edgeNameIn edges i)) (f (edgesFirst + i) (typeNamed w (edgeNameIn edges i)))) (edgeRows edges)
 
--- what f lists for each field of an interface: its fields, their first row, and the place among them
-unfoldable pub interfaceFields : (f : List ℕ → ℕ → ℕ → List Record) (w : List ℕ) (interfaceType : ℕ) → List Record
-interfaceFields f w interfaceType = each (f (fieldsOf w interfaceType) (fieldsStart w interfaceType)) (fieldRows (fieldsOf w interfaceType))
-
 -- 8 for an edge i of the interface that the type lacks
 unfoldable pub transitiveEdge : (t : ℕ) (edges : List ℕ) (viaEdge demandedFirst : ℕ) (demanded : List ℕ) (i : ℕ) → List Record
 transitiveEdge t edges viaEdge demandedFirst demanded i =
@@ -46,32 +41,6 @@ transitiveEdge t edges viaEdge demandedFirst demanded i =
 unfoldable pub transitiveEdges : (w : List ℕ) (t : ℕ) (edges : List ℕ) (viaEdge interfaceType : ℕ) → List Record
 transitiveEdges w t edges viaEdge interfaceType =
     each (transitiveEdge t edges viaEdge (edgesStart w interfaceType) (edgesOf w interfaceType)) (edgeRows (edgesOf w interfaceType))
-
--- where the type's field with the name of the interface's field i stands, or how many fields it has
-abbrev pub ownField : (fields demanded : List ℕ) (i : ℕ) → ℕ
-ownField fields demanded i = fieldNamed fields (fieldNameIn demanded i)
-
--- the type has a field of that name
-abbrev pub hasField : (fields demanded : List ℕ) (i : ℕ) → Bool
-hasField fields demanded i = ltb (ownField fields demanded i) (fieldRows fields)
-
--- 9 for a field of the interface that the type lacks
-unfoldable pub missingField : (t : ℕ) (fields : List ℕ) (viaEdge : ℕ) (demanded : List ℕ) (demandedFirst i : ℕ) → List Record
-missingField t fields viaEdge demanded demandedFirst i =
-    when (not (hasField fields demanded i)) (missingInterfaceField t viaEdge (demandedFirst + i) ∷ [])
-
--- 10 for an own field whose type does not do for the interface's
-unfoldable pub fieldTypeRecord : (w : List ℕ) (t fieldsFirst : ℕ) (fields : List ℕ) (viaEdge : ℕ) (demanded : List ℕ) (demandedFirst i : ℕ) → List Record
-fieldTypeRecord w t fieldsFirst fields viaEdge demanded demandedFirst i =
-    let own = ownField fields demanded i in
-    when (hasField fields demanded i)
-    (when (not (fieldTypeFits w (fieldTypeIn demanded i) (fieldWrapIn demanded i) (fieldTypeIn fields own) (fieldWrapIn fields own)))
-    (invalidImplementationFieldType t viaEdge (demandedFirst + i) (fieldsFirst + own) ∷ []))
-
--- 11 to 13 for field i of the interface
-unfoldable pub fieldArguments : (w : List ℕ) (t fieldsFirst : ℕ) (fields : List ℕ) (viaEdge : ℕ) (demanded : List ℕ) (demandedFirst i : ℕ) → List Record
-fieldArguments w t fieldsFirst fields viaEdge demanded demandedFirst i =
-    when (hasField fields demanded i) (implementingArguments w t viaEdge (demandedFirst + i) (fieldsFirst + ownField fields demanded i))
 
 -- The five loops over the edges: 3; 8
 unfoldable pub implementsRecords : (w : List ℕ) (t edgesFirst : ℕ) (edges : List ℕ) → List Record

@@ -8,30 +8,17 @@ use Rattle.rows.specs.declared.types.FoundType.{FoundType}
 use Rattle.rows.specs.declared.types.FoundType.the-variants.{At, Nothing}
 use Rattle.rows.specs.Types.{isInterface, typeNamed}
 use Rattle.rows.specs.Parts.{edgeRows, edgeNameIn}
-use Rattle.implementing.specs.Interface.{undefinedEdge, transitiveEdges, interfaceFields, missingField, fieldTypeRecord, fieldArguments, implementedFields, edgesRecords}
-use Rattle.implementing.specs.declared.edge_rule.FieldRule.{FieldRule}
-use Rattle.implementing.specs.declared.edge_rule.FieldRule.the-variants.{Missing, Types, Arguments}
+use Rattle.implementing.specs.Interface.{undefinedEdge, transitiveEdges, implementedFields, edgesRecords}
 use Rattle.implementing.specs.declared.edge_rule.DefinedRule.{DefinedRule}
 use Rattle.implementing.specs.declared.edge_rule.DefinedRule.the-variants.{Transitive, Fields}
 use Rattle.implementing.specs.declared.edge_rule.EdgeRule.{EdgeRule}
 use Rattle.implementing.specs.declared.edge_rule.EdgeRule.the-variants.{Undefined, Defined}
-use Rattle.implementing.specs.declared.implementor.Implementor.{Implementor}
-use Rattle.implementing.specs.declared.implementor.InterfaceField.{InterfaceField}
+use Rattle.matching.specs.declared.implementor.Implementor.{Implementor}
+use Rattle.matching.specs.Rules.{eachField}
 
 -- the row of the interface with the name, as a search for it answers
 unfoldable pub foundInterface : (w : List ℕ) (n : ℕ) → FoundType
 foundInterface w n = cond (isInterface w n) (At (record { 0 = typeNamed w n })) Nothing
-
--- a rule for a field of an interface
-unfoldable pub fieldRule : FieldRule → (w : List ℕ) (own : Implementor) (fields demanded : List ℕ) (field : InterfaceField) → List Record
-fieldRule Missing w own fields demanded field = missingField (own .ty .0) fields (field .edge) demanded (field .first) (field .at)
-fieldRule Types w own fields demanded field = fieldTypeRecord w (own .ty .0) (own .«fields_first») fields (field .edge) demanded (field .first) (field .at)
-fieldRule Arguments w own fields demanded field = fieldArguments w (own .ty .0) (own .«fields_first») fields (field .edge) demanded (field .first) (field .at)
-
--- for each field of the interface behind an edge
-unfoldable pub eachField : FieldRule → (w : List ℕ) (own : Implementor) (fields : List ℕ) (viaEdge interfaceType : ℕ) → List Record
-eachField rule w own fields viaEdge interfaceType =
-    interfaceFields (λ demanded first i. fieldRule rule w own fields demanded (record { edge = viaEdge; first = first; at = i })) w interfaceType
 
 -- a rule for a defined edge
 unfoldable pub definedRule : DefinedRule → (w : List ℕ) (own : Implementor) (edges fields : List ℕ) (viaEdge interfaceType : ℕ) → List Record

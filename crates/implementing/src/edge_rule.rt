@@ -1,12 +1,6 @@
 // The rules over edges, by the records that they list. A loop is handed its rule, so that one loop over edges, and one over the fields of an
 // interface, serve them all.
-
-// A rule over the fields of an interface: 9, 10, or 11 to 13.
-pub enum FieldRule {
-    Missing,
-    Types,
-    Arguments,
-}
+use matching::field_rule::FieldRule;
 
 // A rule over defined edges: 8, or one over the interface's fields.
 pub enum DefinedRule {

@@ -3,23 +3,24 @@
 ghost use mathlib.Core.Path.{_≡_};
 ghost use Prim.Native.Nat.{_+_, _≤_, _<_};
 ghost use Rattle.records.specs.Records.{Emitted};
-ghost use Rattle.rows.specs.Parts.{edgeRows};
-ghost use Rattle.rows.specs.Readable.{SoundRows, NamePart};
-ghost use Rattle.order.specs.Order.{Indexed};
+ghost use Rattle.rows.specs.Parts.{edgeRows, edgesOf};
+ghost use Rattle.rows.specs.Readable.{NamePart};
+ghost use Rattle.rows.specs.Index.{Indexed};
+ghost use Rattle.rising.specs.Lists.{Sorted};
 ghost use Rattle.implementing.specs.Interface.{undefinedEdge, transitiveEdge, transitiveEdges};
 ghost use Rattle.implementing.specs.Rules.{foundInterface};
 ghost use Rattle.table.specs.Layout.{mostEdges};
-use crate::implementor::Implementor;
-use order::find::look_up;
+use matching::implementor::Implementor;
 use records::Place;
 use records::Record;
 use records::put;
 use records::used;
+use rising::lists::is_edge_of;
 use rows::cells::edge_name;
 use rows::cells::edge_rows;
+use rows::index::look_up;
 use rows::parts::edges_of;
 use rows::parts::edges_start;
-use rows::search::has_name;
 use rows::types::FoundType;
 use rows::types::type_kind;
 use table::kinds::Kind;
@@ -28,11 +29,11 @@ use table::numbers::NameNo;
 use table::numbers::TypeRow;
 
 // The interface of the name.
-pub fn find_interface(words: &[u32], l: Layout, order: &[u32], name: NameNo) -> FoundType
-    requires { ⌜ Indexed (now words) l (now order) ⌝ }
+pub fn find_interface(words: &[u32], l: Layout, index: &[u16], name: NameNo) -> FoundType
+    requires { ⌜ Indexed (now words) l (now index) ⌝ }
     ensures { λ r. ⌜ r ≡ foundInterface (now (words .entry)) (name .0) ⌝ }
 {
-    let FoundType::At(ty) = look_up(words, l, order, name) else {
+    let FoundType::At(ty) = look_up(words, l, index, name) else {
         return FoundType::Nothing;
     };
     if type_kind(words, l, ty) == Kind::INTERFACE {
@@ -45,20 +46,20 @@ pub fn find_interface(words: &[u32], l: Layout, order: &[u32], name: NameNo) -> 
 pub fn validate_edge_defined(
     words: &[u32],
     l: Layout,
-    order: &[u32],
+    index: &[u16],
     own: Implementor,
     edges: &[u32],
     i: usize,
     out: &mut [u32],
 ) -> usize
-    requires { ⌜ Indexed (now words) l (now order) ⌝ }
+    requires { ⌜ Indexed (now words) l (now index) ⌝ }
     requires { ⌜ NamePart l (own .«edges_first») (now edges) ⌝ }
     requires { ⌜ i < edgeRows (now edges) ⌝ }
     ensures { λ n. ⌜ Emitted (undefinedEdge (now (words .entry)) (own .ty .0) (own .«edges_first») (now (edges .entry)) i) (now (out .entry)) (now (out .exit)) n ⌝ }
     ensures { λ n. ⌜ n ≤ 1 ⌝ }
 {
     let name = edge_name(edges, i);
-    let FoundType::At(_) = find_interface(words, l, order, name) else {
+    let FoundType::At(_) = find_interface(words, l, index, name) else {
         let row = (own.edges_first + i) as u32;
         return put(
             out,
@@ -70,19 +71,23 @@ pub fn validate_edge_defined(
 
 // 8 for an edge i of the interface that the type lacks.
 fn validate_transitive_edge(
+    words: &[u32],
+    l: Layout,
+    lists: &[u16],
     ty: TypeRow,
-    edges: &[u32],
     via_edge: u32,
     first: usize,
     interface_edges: &[u32],
     i: usize,
     out: &mut [u32],
 ) -> usize
+    requires { ⌜ Sorted (now words) l (now lists) ⌝ }
+    requires { ⌜ ty .0 < l .types ⌝ }
     requires { ⌜ (i < edgeRows (now «interface_edges»)) × (first + edgeRows (now «interface_edges») ≤ mostEdges) ⌝ }
-    ensures { λ n. ⌜ Emitted (transitiveEdge (ty .0) (now (edges .entry)) «via_edge» first (now («interface_edges» .entry)) i) (now (out .entry)) (now (out .exit)) n ⌝ }
+    ensures { λ n. ⌜ Emitted (transitiveEdge (ty .0) (edgesOf (now (words .entry)) (ty .0)) «via_edge» first (now («interface_edges» .entry)) i) (now (out .entry)) (now (out .exit)) n ⌝ }
     ensures { λ n. ⌜ n ≤ 1 ⌝ }
 {
-    if has_name(edges, edge_name(interface_edges, i)) {
+    if is_edge_of(words, l, lists, edge_name(interface_edges, i), ty) {
         return 0;
     }
     let row = (first + i) as u32;
@@ -96,15 +101,15 @@ fn validate_transitive_edge(
 pub fn validate_transitive_edges(
     words: &[u32],
     l: Layout,
+    lists: &[u16],
     ty: TypeRow,
-    edges: &[u32],
     via_edge: u32,
     interface: TypeRow,
     out: &mut [u32],
 ) -> usize
-    requires { ⌜ SoundRows (now words) l ⌝ }
-    requires { ⌜ interface .0 < l .types ⌝ }
-    ensures { λ n. ⌜ Emitted (transitiveEdges (now (words .entry)) (ty .0) (now (edges .entry)) «via_edge» (interface .0)) (now (out .entry)) (now (out .exit)) n ⌝ }
+    requires { ⌜ Sorted (now words) l (now lists) ⌝ }
+    requires { ⌜ (ty .0 < l .types) × (interface .0 < l .types) ⌝ }
+    ensures { λ n. ⌜ Emitted (transitiveEdges (now (words .entry)) (ty .0) (edgesOf (now (words .entry)) (ty .0)) «via_edge» (interface .0)) (now (out .entry)) (now (out .exit)) n ⌝ }
     ensures { λ n. ⌜ n ≤ mostEdges ⌝ }
 {
     let first = edges_start(words, l, interface);
@@ -115,8 +120,10 @@ pub fn validate_transitive_edges(
     while i < rows {
         let at = used(n, out.len());
         n += validate_transitive_edge(
+            words,
+            l,
+            lists,
             ty,
-            edges,
             via_edge,
             first,
             interface_edges,

@@ -4,12 +4,15 @@ ghost use Prim.Native.Nat.{_+_, _*_, _≤_, _<_};
 ghost use Rattle.records.specs.Records.{Emitted};
 ghost use Rattle.rows.specs.Parts.{argumentRows};
 ghost use Rattle.rows.specs.Readable.{FieldPart, ArgumentPart};
-ghost use Rattle.order.specs.Order.{Legible};
+ghost use Rattle.rows.specs.Index.{Legible};
+ghost use Rattle.lookup.specs.Cells.{ArgumentsNamed, ArgumentsHelped};
 ghost use Rattle.inputs.specs.InputObject.{inputKind, inputTypeRecord, inputValue, argumentValuesRecords, repeatRecord, repeatsRecords, argumentsRecords, cycleRecord, inputValuesRecords, inputFieldsRecords, inputObjectRecords};
 ghost use Rattle.inputs.specs.Bounds.{mostOfArguments};
 ghost use Rattle.table.specs.Layout.{mostArguments, mostFields};
 use crate::type_system_name::validate_type_system_name;
-use order::find::look_up;
+use lookup::arguments::has_few;
+use lookup::arguments::index_arguments;
+use lookup::arguments::look_up_argument;
 use records::Place;
 use records::Record;
 use records::put;
@@ -20,8 +23,8 @@ use rows::cells::argument_type;
 use rows::cells::field_name;
 use rows::cells::field_rows;
 use rows::cells::field_type;
+use rows::index::look_up;
 use rows::search::Found;
-use rows::search::find_argument;
 use rows::spelling::is_builtin;
 use rows::types::FoundType;
 use rows::types::type_flag;
@@ -43,19 +46,19 @@ fn validate_input_type(
     text: &[u8],
     words: &[u32],
     l: Layout,
-    order: &[u32],
+    index: &[u16],
     t: TypeRow,
     name: NameNo,
     place: Place,
     row: u32,
     out: &mut [u32],
 ) -> usize
-    requires { ⌜ Legible (now text) (now words) l (now order) ⌝ }
+    requires { ⌜ Legible (now text) (now words) l (now index) ⌝ }
     requires { ⌜ name .0 < l .names ⌝ }
     ensures { λ n. ⌜ Emitted (inputTypeRecord (now (text .entry)) (now (words .entry)) (t .0) (name .0) (place .0) row) (now (out .entry)) (now (out .exit)) n ⌝ }
     ensures { λ n. ⌜ n ≤ 1 ⌝ }
 {
-    match look_up(words, l, order, name) {
+    match look_up(words, l, index, name) {
         FoundType::Nothing => {
             if is_builtin(text, words, l, name) {
                 return 0;
@@ -83,14 +86,14 @@ fn validate_input_value(
     text: &[u8],
     words: &[u32],
     l: Layout,
-    order: &[u32],
+    index: &[u16],
     t: TypeRow,
     value: InputValue,
     place: Place,
     row: u32,
     out: &mut [u32],
 ) -> usize
-    requires { ⌜ Legible (now text) (now words) l (now order) ⌝ }
+    requires { ⌜ Legible (now text) (now words) l (now index) ⌝ }
     requires { ⌜ (value .name .0 < l .names) × (value .ty .0 < l .names) ⌝ }
     ensures { λ n. ⌜ Emitted (inputValue (now (text .entry)) (now (words .entry)) (t .0) (value .flag) (value .name .0) (value .ty .0) (place .0) row) (now (out .entry)) (now (out .exit)) n ⌝ }
     ensures { λ n. ⌜ n ≤ 2 ⌝ }
@@ -99,20 +102,20 @@ fn validate_input_value(
     let n = validate_type_system_name(text, words, l, t, value.flag, name, place, row, out);
     let at = used(n, out.len());
     let ty = value.ty;
-    n + validate_input_type(text, words, l, order, t, ty, place, row, &mut out[at..])
+    n + validate_input_type(text, words, l, index, t, ty, place, row, &mut out[at..])
 }
 
 fn validate_argument_values(
     text: &[u8],
     words: &[u32],
     l: Layout,
-    order: &[u32],
+    index: &[u16],
     t: TypeRow,
     first: usize,
     arguments: &[u32],
     out: &mut [u32],
 ) -> usize
-    requires { ⌜ Legible (now text) (now words) l (now order) ⌝ }
+    requires { ⌜ Legible (now text) (now words) l (now index) ⌝ }
     requires { ⌜ t .0 < l .types ⌝ }
     requires { ⌜ ArgumentPart l first (now arguments) ⌝ }
     ensures { λ n. ⌜ Emitted (argumentValuesRecords (now (text .entry)) (now (words .entry)) (t .0) first (now (arguments .entry))) (now (out .entry)) (now (out .exit)) n ⌝ }
@@ -130,7 +133,7 @@ fn validate_argument_values(
             text,
             words,
             l,
-            order,
+            index,
             t,
             InputValue { name, ty, flag },
             Place::ARGUMENT,
@@ -147,15 +150,16 @@ fn validate_unique_argument(
     t: TypeRow,
     first: usize,
     arguments: &[u32],
+    cells: &[u16],
     i: usize,
     out: &mut [u32],
 ) -> usize
-    requires { ⌜ first + argumentRows (now arguments) ≤ mostArguments ⌝ }
-    requires { ⌜ i < argumentRows (now arguments) ⌝ }
+    requires { ⌜ (first + argumentRows (now arguments) ≤ mostArguments) × (i < argumentRows (now arguments)) ⌝ }
+    requires { ⌜ ArgumentsHelped (now arguments) (now cells) ⌝ }
     ensures { λ n. ⌜ Emitted (repeatRecord (t .0) first (now (arguments .entry)) i) (now (out .entry)) (now (out .exit)) n ⌝ }
     ensures { λ n. ⌜ n ≤ 1 ⌝ }
 {
-    let Found::At(j) = find_argument(arguments, argument_name(arguments, i)) else {
+    let Found::At(j) = look_up_argument(arguments, cells, argument_name(arguments, i)) else {
         return 0;
     };
     if j < i {
@@ -167,8 +171,16 @@ fn validate_unique_argument(
     0
 }
 
-fn validate_unique_arguments(t: TypeRow, first: usize, arguments: &[u32], out: &mut [u32]) -> usize
+// Each argument; the cells tell the arguments, or there are none.
+fn validate_each_unique_argument(
+    t: TypeRow,
+    first: usize,
+    arguments: &[u32],
+    cells: &[u16],
+    out: &mut [u32],
+) -> usize
     requires { ⌜ first + argumentRows (now arguments) ≤ mostArguments ⌝ }
+    requires { ⌜ ArgumentsHelped (now arguments) (now cells) ⌝ }
     ensures { λ n. ⌜ Emitted (repeatsRecords (t .0) first (now (arguments .entry))) (now (out .entry)) (now (out .exit)) n ⌝ }
     ensures { λ n. ⌜ n ≤ mostArguments ⌝ }
 {
@@ -177,29 +189,44 @@ fn validate_unique_arguments(t: TypeRow, first: usize, arguments: &[u32], out: &
     let mut i = 0;
     while i < rows {
         let at = used(n, out.len());
-        n += validate_unique_argument(t, first, arguments, i, &mut out[at..]);
+        n += validate_unique_argument(t, first, arguments, cells, i, &mut out[at..]);
         i += 1;
     }
     n
+}
+
+// Each is looked for among all, so where there are many they are noted in cells first.
+fn validate_unique_arguments(t: TypeRow, first: usize, arguments: &[u32], out: &mut [u32]) -> usize
+    requires { ⌜ first + argumentRows (now arguments) ≤ mostArguments ⌝ }
+    requires { ⌜ ArgumentsNamed (now arguments) ⌝ }
+    ensures { λ n. ⌜ Emitted (repeatsRecords (t .0) first (now (arguments .entry))) (now (out .entry)) (now (out .exit)) n ⌝ }
+    ensures { λ n. ⌜ n ≤ mostArguments ⌝ }
+{
+    if has_few(arguments) {
+        return validate_each_unique_argument(t, first, arguments, &[], out);
+    }
+    let mut cells = [0; 4096];
+    index_arguments(arguments, &mut cells);
+    validate_each_unique_argument(t, first, arguments, &cells, out)
 }
 
 pub fn validate_argument_definitions(
     text: &[u8],
     words: &[u32],
     l: Layout,
-    order: &[u32],
+    index: &[u16],
     t: TypeRow,
     first: usize,
     arguments: &[u32],
     out: &mut [u32],
 ) -> usize
-    requires { ⌜ Legible (now text) (now words) l (now order) ⌝ }
+    requires { ⌜ Legible (now text) (now words) l (now index) ⌝ }
     requires { ⌜ t .0 < l .types ⌝ }
     requires { ⌜ ArgumentPart l first (now arguments) ⌝ }
     ensures { λ n. ⌜ Emitted (argumentsRecords (now (text .entry)) (now (words .entry)) (t .0) first (now (arguments .entry))) (now (out .entry)) (now (out .exit)) n ⌝ }
     ensures { λ n. ⌜ n ≤ mostOfArguments ⌝ }
 {
-    let n = validate_argument_values(text, words, l, order, t, first, arguments, out);
+    let n = validate_argument_values(text, words, l, index, t, first, arguments, out);
     let at = used(n, out.len());
     n + validate_unique_arguments(t, first, arguments, &mut out[at..])
 }
@@ -208,13 +235,13 @@ fn validate_input_values(
     text: &[u8],
     words: &[u32],
     l: Layout,
-    order: &[u32],
+    index: &[u16],
     t: TypeRow,
     first: usize,
     fields: &[u32],
     out: &mut [u32],
 ) -> usize
-    requires { ⌜ Legible (now text) (now words) l (now order) ⌝ }
+    requires { ⌜ Legible (now text) (now words) l (now index) ⌝ }
     requires { ⌜ t .0 < l .types ⌝ }
     requires { ⌜ FieldPart l first (now fields) ⌝ }
     ensures { λ n. ⌜ Emitted (inputValuesRecords (now (text .entry)) (now (words .entry)) (t .0) first (now (fields .entry))) (now (out .entry)) (now (out .exit)) n ⌝ }
@@ -232,7 +259,7 @@ fn validate_input_values(
             text,
             words,
             l,
-            order,
+            index,
             t,
             InputValue { name, ty, flag },
             Place::INPUT_FIELD,
@@ -249,19 +276,19 @@ fn validate_input_fields(
     text: &[u8],
     words: &[u32],
     l: Layout,
-    order: &[u32],
+    index: &[u16],
     t: TypeRow,
     first: usize,
     fields: &[u32],
     out: &mut [u32],
 ) -> usize
-    requires { ⌜ Legible (now text) (now words) l (now order) ⌝ }
+    requires { ⌜ Legible (now text) (now words) l (now index) ⌝ }
     requires { ⌜ t .0 < l .types ⌝ }
     requires { ⌜ FieldPart l first (now fields) ⌝ }
     ensures { λ n. ⌜ Emitted (inputFieldsRecords (now (text .entry)) (now (words .entry)) (t .0) first (now (fields .entry))) (now (out .entry)) (now (out .exit)) n ⌝ }
     ensures { λ n. ⌜ n ≤ 2 * mostFields + 1 ⌝ }
 {
-    let n = validate_input_values(text, words, l, order, t, first, fields, out);
+    let n = validate_input_values(text, words, l, index, t, first, fields, out);
     if field_rows(fields) == 0 {
         let at = used(n, out.len());
         return n + put(&mut out[at..], Record::empty_input_value_set(t));
@@ -284,14 +311,14 @@ pub fn validate_input_object_definition(
     text: &[u8],
     words: &[u32],
     l: Layout,
-    order: &[u32],
+    index: &[u16],
     t: TypeRow,
     cycle: u32,
     first: usize,
     fields: &[u32],
     out: &mut [u32],
 ) -> usize
-    requires { ⌜ Legible (now text) (now words) l (now order) ⌝ }
+    requires { ⌜ Legible (now text) (now words) l (now index) ⌝ }
     requires { ⌜ t .0 < l .types ⌝ }
     requires { ⌜ FieldPart l first (now fields) ⌝ }
     ensures { λ n. ⌜ Emitted (inputObjectRecords (now (text .entry)) (now (words .entry)) (t .0) cycle first (now (fields .entry))) (now (out .entry)) (now (out .exit)) n ⌝ }
@@ -299,5 +326,5 @@ pub fn validate_input_object_definition(
 {
     let n = validate_cycle(t, cycle, out);
     let at = used(n, out.len());
-    n + validate_input_fields(text, words, l, order, t, first, fields, &mut out[at..])
+    n + validate_input_fields(text, words, l, index, t, first, fields, &mut out[at..])
 }

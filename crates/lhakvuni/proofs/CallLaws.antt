@@ -5,7 +5,8 @@ use mathlib.Core.Logic.{_≢_, inr, ⊎-elim}
 use mathlib.Core.List.{List, [], _++_}
 use Prim.Native.Nat.{ℕ, _*_, _≤_, _<_}
 use native.Mathlib.Omega.{arith}
-use lib.ListN.{length, drop, replicate}
+use lib.ListN.{length, drop, replicate, length-replicate}
+use lib.Seq.{drop-at}
 use Rattle.table.specs.declared.layout.Layout.{Layout}
 use Rattle.table.specs.declared.refusal.Refusal.{Refusal}
 use Rattle.wellformed.specs.declared.check.Verdict.{Verdict}
@@ -16,21 +17,28 @@ use Rattle.table.specs.Refusals.{noInputObject, shortWork}
 use Rattle.wellformed.specs.WellFormed.{refusal}
 use Rattle.records.specs.Records.{flat}
 use Rattle.validation.specs.Validation.{records as listOf}
-use Rattle.chains.specs.Work.{workWords, orderAt}
-use Rattle.chains.specs.Fields.{chainGraph}
+use Rattle.chains.specs.Work.{workWords}
+use Rattle.links.specs.Fields.{chainGraph}
 use Rattle.chains.specs.Answer.{CycleRows}
-use Rattle.chains.specs.Chains.{Graph, PathTo, PathTo.last, PathTo.step}
-use Rattle.chains.proofs.HelpLaws.{rest-behind}
+use Rattle.links.specs.Chains.{Graph}
+use Rattle.chains.specs.Cycles.{PathTo, PathTo.last, PathTo.step}
 use Rattle.chains.proofs.Counts.{cycleCount, count-right, cycleRows, rows-right}
 use Rattle.lhakvuni.specs.declared.answer.Answer.{Answer}
 use Rattle.lhakvuni.specs.declared.answer.Answer.the-variants.{Refused as Refuse}
 use Rattle.lhakvuni.specs.Promise.{Output}
 use Rattle.lhakvuni.specs.Calls.{inputObjectAt, recordsNumber, cycleNumber, Listed, RecordsKept, FirstCycleKept}
-use Rattle.lhakvuni.specs.Work.{Prepared, Counted, countsIn, CycleOutput}
-use Rattle.lhakvuni.proofs.WorkLaws.{counts-part}
+use Rattle.lhakvuni.specs.Outputs.{CycleOutput}
+use Rattle.counting.specs.Counting.{Counted, countsIn}
+use Rattle.counting.proofs.CountingLaws.{counts-part}
 use Rattle.lhakvuni.proofs.PromiseLaws.{promise-refused, promise-given}
 use Rattle.lhakvuni.proofs.NumberLaws.{types-are, records-refused, cycle-refused, refusal-some, work-short, work-long, records-number, cycle-row, cycle-work, row-below}
 use Rattle.names.proofs.BoolLaws.{below-or-from}
+
+-- words cleared twice, and left alone between
+pub cleared-again : (k : ℕ) (W X Y Z : List ℕ) → X ≡ replicate k 0 ++ drop k W → Y ≡ X → Z ≡ replicate k 0 ++ drop k Y → Z ≡ replicate k 0 ++ drop k W
+cleared-again k W X Y Z first kept again =
+    let zeros : length {A = ℕ} (replicate k 0) ≡ k = length-replicate k 0 in
+    again ∙ ap (λ (x : List ℕ). replicate k 0 ++ drop k x) (kept ∙ first) ∙ ap (λ (x : List ℕ). replicate k 0 ++ x) (drop-at (replicate k 0) (drop k W) k zeros)
 
 -- every table has a list of records
 pub listed : (text w : List ℕ) → Listed text w (listOf text w (cycleCount w))
@@ -71,15 +79,17 @@ module _ (text w : List ℕ) (v : Verdict) (e : verdictNumber v ≡ refusal text
     pub records-work : (work out : List ℕ) → length work < workWords * l .types → RecordsKept text w work out work out (Refuse workRefusal)
     records-work work out h = records-refuse text w work out workRefusal (records-number text w accepted work ∙ work-short w l same workWords work h) nine
 
-    -- an output that is too short, or a success: the table was prepared, the counts filled in, the rows written or not, and the work words cleared
+    -- an output that is too short, or a success: the work words were cleared, the counts filled in, the rows written or not, and the work words cleared again
     pub records-given : (work start mid work′ out out′ : List ℕ) (a : Answer) → workWords * l .types ≤ length work
-        → Prepared w l work start → Counted (chainGraph w) start mid
+        → start ≡ replicate (workWords * l .types) 0 ++ drop (workWords * l .types) work → Counted (chainGraph w) start mid
         → Output (length (listOf text w (countsIn (l .types) mid))) (flat (listOf text w (countsIn (l .types) mid))) out out′ a
         → work′ ≡ replicate (workWords * l .types) 0 ++ drop (workWords * l .types) mid → RecordsKept text w work out work′ out′ a
     records-given work start mid work′ out out′ a room p c o z =
         let t = types-are w l same in
         let k : ℕ = workWords * l .types in
-        let kept : drop k mid ≡ drop k work = rest-behind (orderAt (typeCount w)) k start mid (omega arith) (c .rest) ∙ p .rest in
+        let zeros : length {A = ℕ} (replicate k 0) ≡ k = length-replicate k 0 in
+        let behind : drop k start ≡ drop k work = ap (drop k) p ∙ drop-at (replicate k 0) (drop k work) k zeros in
+        let kept : drop k mid ≡ drop k work = (rw (← t) at (c .rest)) ∙ behind in
         let y : work′ ≡ replicate k 0 ++ drop k work = z ∙ ap (λ (x : List ℕ). replicate k 0 ++ x) kept in
         record {
           rows = listOf text w (countsIn (l .types) mid);

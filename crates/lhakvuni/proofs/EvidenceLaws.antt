@@ -16,8 +16,8 @@ use Rattle.table.specs.Refusals.{wrongEvidence}
 use Rattle.wellformed.specs.Answers.{verdictNumber, Proper}
 use Rattle.table.specs.Layout.{layoutOf, typeCount}
 use Rattle.wellformed.specs.WellFormed.{refusal}
-use Rattle.chains.specs.Chains.{Graph}
-use Rattle.chains.specs.Fields.{chainGraph}
+use Rattle.links.specs.Chains.{Graph}
+use Rattle.links.specs.Fields.{chainGraph}
 use Rattle.evidence.specs.Words.{evidenceWords}
 use Rattle.evidence.specs.Judged.{judgedOf}
 use Rattle.evidence.proofs.Exists.{evidence, evidence-canonical}

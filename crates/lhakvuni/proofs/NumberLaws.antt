@@ -21,7 +21,7 @@ use Rattle.rows.specs.Readable.{SoundRows, Readable}
 use Rattle.rows.proofs.ReadableLaws.{sound-rows, readable}
 use Rattle.names.proofs.BoolLaws.{and-left}
 use Rattle.evidence.specs.Words.{evidenceWords}
-use Rattle.chains.specs.Fields.{isInputObject}
+use Rattle.links.specs.Fields.{isInputObject}
 use Rattle.chains.specs.Work.{workWords}
 use Rattle.lhakvuni.specs.Calls.{orElse, inputObjectAt, rowNumber, workNumber, evidenceNumber, recordsNumber, cycleNumber, judgeNumber, makeNumber}
 

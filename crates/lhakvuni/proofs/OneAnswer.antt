@@ -10,7 +10,7 @@ use Rattle.records.specs.declared.Record.{Record}
 use Rattle.records.specs.Records.{each, flat}
 use Rattle.validation.specs.Validation.{typeRecords}
 use Rattle.validation.specs.Validation.{records as listOf}
-use Rattle.chains.specs.Fields.{chainGraph}
+use Rattle.links.specs.Fields.{chainGraph}
 use Rattle.chains.proofs.Order.{rows-unique, count-unique}
 use Rattle.lhakvuni.specs.declared.answer.Answer.{Answer}
 use Rattle.lhakvuni.specs.Promise.{Promised}

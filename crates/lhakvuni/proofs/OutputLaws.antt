@@ -8,12 +8,12 @@ use lib.Seq.{take-all}
 use Rattle.records.specs.declared.Record.{Record}
 use Rattle.records.specs.Records.{Emitted, flat, rowWords}
 use Rattle.records.proofs.Records.{flat-length}
-use Rattle.chains.specs.Chains.{Graph}
+use Rattle.links.specs.Chains.{Graph}
 use Rattle.chains.specs.Answer.{CycleCount, CycleAnswered}
 use Rattle.chains.proofs.Order.{rows-unique}
 use Rattle.lhakvuni.specs.declared.answer.Answer.the-variants.{Rows, Short}
 use Rattle.lhakvuni.specs.Promise.{Output}
-use Rattle.lhakvuni.specs.Work.{CycleOutput}
+use Rattle.lhakvuni.specs.Outputs.{CycleOutput}
 use Rattle.lhakvuni.proofs.PromiseLaws.{output-short, output-done}
 
 no-words : (l : List ℕ) → length l ≡ 0 → l ≡ []
@@ -36,6 +36,11 @@ end-emitted L o t k n e m = end-same o t k e (m .same)
 module _ (L : List Record) (n need : ℕ) (out mid : List ℕ) (count : n ≡ length L) (words : need ≡ rowWords * n) (same : mid ≡ out) where
   need-is : need ≡ length (flat L)
   need-is = omega (arith, flat-length L)
+
+  pub records-none : n ≡ 0 → Output (length L) (flat L) out mid (Rows 0)
+  records-none z =
+      let k : length (flat L) ≡ 0 = omega (arith, flat-length L) in
+      output-done (length L) (flat L) out mid (Rows 0) (omega arith) (ap Rows (sym z ∙ count)) (rw (no-words (flat L) k) same)
 
   pub records-short : length mid < need → Output (length L) (flat L) out mid (Short need)
   records-short h =

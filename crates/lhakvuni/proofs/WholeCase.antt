@@ -19,7 +19,7 @@ use Rattle.records.specs.Rows.{queryRootOperationType, invalidImplementationFie
 use Rattle.validation.specs.Validation.{records as listOf}
 use Rattle.validation.specs.Examples.{computes as computed}
 use Rattle.table.specs.Kinds.{inputObjectKind}
-use Rattle.chains.specs.Fields.{isInputObject, chainGraph}
+use Rattle.links.specs.Fields.{isInputObject, chainGraph}
 use Rattle.chains.specs.Work.{workWords}
 use Rattle.chains.proofs.Counts.{other-none}
 use Rattle.lhakvuni.specs.declared.answer.Answer.{Answer}

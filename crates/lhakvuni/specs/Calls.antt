@@ -11,7 +11,7 @@ use Rattle.wellformed.specs.WellFormed.{refusal}
 use Rattle.records.specs.declared.Record.{Record}
 use Rattle.records.specs.Records.{flat}
 use Rattle.validation.specs.Validation.{records as listOf}
-use Rattle.chains.specs.Fields.{isInputObject, chainGraph}
+use Rattle.links.specs.Fields.{isInputObject, chainGraph}
 use Rattle.chains.specs.Work.{workWords}
 use Rattle.chains.specs.Answer.{CycleRows, CycleCount}
 use Rattle.evidence.specs.Words.{evidenceWords}

@@ -1,5 +1,5 @@
 pub mod Answers
 pub mod Promise
 pub mod Calls
-pub mod Work
+pub mod Outputs
 pub mod Exports

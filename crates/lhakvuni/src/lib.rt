@@ -10,7 +10,6 @@ pub mod c;
 pub mod calls;
 pub mod judging;
 pub mod making;
-pub mod work;
 
 pub use answer::Answer;
 pub use calls::check_table;

@@ -1,29 +1,29 @@
 -- The six passes one after the other leave the canonical evidence.
-use mathlib.Core.Path.{_≡_, refl, sym, _∙_}
+use mathlib.Core.Path.{_≡_, refl, sym, ap, _∙_}
 use mathlib.Core.Logic.{⊎-elim, _≢_}
 use mathlib.Core.List.{List, _++_}
 use Prim.Native.Nat.{ℕ, _+_, _*_, _-_, _≤_, _<_}
 use native.Mathlib.Omega.{arith}
 use lib.ListN.{length, getD, take, drop, replicate, length-take}
 use lib.Seq.{getD-take}
-use Rattle.chains.specs.Chains.{Graph}
-use Rattle.chains.specs.Fields.{chainGraph}
+use Rattle.links.specs.Chains.{Graph}
+use Rattle.links.specs.Fields.{chainGraph}
 use Rattle.table.specs.declared.layout.Layout.{Layout}
 use Rattle.table.specs.Layout.{none, typeCount}
-use Rattle.order.specs.Order.{Placed}
 use Rattle.evidence.specs.declared.row.EvidenceColumn.{EvidenceColumn}
 use Rattle.evidence.specs.declared.row.EvidenceColumn.the-variants.{Number, Leader, OutField, OutDistance, InField, InDepth}
 use Rattle.evidence.specs.Words.{evidenceWords, number, leader, outField, outDistance, inField, inDepth}
 use Rattle.evidence.specs.Canonical.{Marks, Marks.on, Marks.off, Row, Canonical}
-use Rattle.chains.specs.Work.{orderAt}
-use Rattle.producer.specs.Search.{Cleared}
+use Rattle.chains.specs.Work.{trailAt}
+use Rattle.searching.specs.Search.{Cleared}
 use Rattle.producer.specs.Produced.{Filled, NumberIs, LeaderIs, WordIs, Right, AllRight, measures, ranks, levels, Filling, Whole, PassKept, Rooms, Made}
 use Rattle.rows.specs.Readable.{SoundRows}
 use Rattle.evidence.proofs.ChainLaws.{chained}
 use Rattle.evidence.proofs.Unique.{Agree, agree-back}
-use Rattle.producer.proofs.Reach.{zeros-cleared}
-use Rattle.producer.proofs.Lookups.{helped-kept}
-use Rattle.chains.proofs.HelpLaws.{rest-behind}
+use Rattle.searching.proofs.Reach.{zeros-cleared}
+use Rattle.links.specs.Links.{Resolved}
+use Rattle.links.proofs.LinkLaws.{linked}
+use Rattle.chains.proofs.RestLaws.{rest-behind}
 use Rattle.producer.proofs.PassLaws.{led-on, led-off, led-kept, numbered-kept, leader-kept, word-as, cleared-join}
 use Rattle.producer.proofs.ChoiceLaws.{word-none, word-some, measured-kept, column-agree, out-as, in-as}
 use Rattle.chains.proofs.Marks.{same-or-not}
@@ -38,7 +38,7 @@ module _ (g : Graph) where
   numbered f t l = f .words t l
 
   -- after the second, so are the leaders
-  pub ranked : {O X Y W W′ W″ : List ℕ} → Pass Number O X → Pass Leader X Y → Cleared (orderAt (g .types)) W W′ → Cleared (orderAt (g .types)) W′ W″
+  pub ranked : {O X Y W W′ W″ : List ℕ} → Pass Number O X → Pass Leader X Y → Cleared (trailAt (g .types)) W W′ → Cleared (trailAt (g .types)) W′ W″
       → PassKept (g .types) (AllRight g ranks) O Y W W″
   ranked f₀ f₁ c d =
       record {
@@ -49,7 +49,7 @@ module _ (g : Graph) where
       }
 
   -- with the leaders, distances and depths
-  pub leveled : {O X Y W W′ W″ : List ℕ} → AllRight g ranks O → Pass OutDistance O X → Pass InDepth X Y → Cleared (orderAt (g .types)) W W′ → Cleared (orderAt (g .types)) W′ W″
+  pub leveled : {O X Y W W′ W″ : List ℕ} → AllRight g ranks O → Pass OutDistance O X → Pass InDepth X Y → Cleared (trailAt (g .types)) W W′ → Cleared (trailAt (g .types)) W′ W″
       → PassKept (g .types) (AllRight g levels) O Y W W″
   leveled {O} {X} {Y} h f₃ f₅ c d =
       record {
@@ -173,7 +173,7 @@ module _ (g : Graph) where
 -- with all of these, the fields
 pub fitted : (g : Graph) {O X Y W W′ W″ : List ℕ} → g .types ≤ none → evidenceWords * g .types ≤ length O → AllRight g levels O
     → Filled g OutField (g .types) O X → Filled g InField (g .types) X Y
-    → Cleared (orderAt (g .types)) W W′ → Cleared (orderAt (g .types)) W′ W″ → PassKept (g .types) (Whole g) O Y W W″
+    → Cleared (trailAt (g .types)) W W′ → Cleared (trailAt (g .types)) W′ W″ → PassKept (g .types) (Whole g) O Y W W″
 fitted g {O} {X} {Y} few room h f₂ f₄ c d =
     let size : length Y ≡ length O = f₄ .column .size ∙ f₂ .column .size in
     record {
@@ -183,57 +183,51 @@ fitted g {O} {X} {Y} few room h f₂ f₄ c d =
       cleared = cleared-join c d;
     }
 
--- before the passes the words of the search are cleared, and the types are sorted in those behind
+-- before the passes the work words are cleared
 module _ {w : List ℕ} {l : Layout} {O W Y : List ℕ} (s : SoundRows w l) (r : Rooms (typeCount w) W O)
-    (e : Y ≡ replicate (orderAt (l .types)) 0 ++ drop (orderAt (l .types)) W) where
-  cleared-first : Cleared (orderAt (typeCount w)) W Y
-  cleared-first = let m = r .work-room in rw (e, chained s .types) (zeros-cleared (orderAt (typeCount w)) W (omega arith))
+    (e : Y ≡ replicate (evidenceWords * l .types) 0 ++ drop (evidenceWords * l .types) W) where
+  cleared-first : Cleared (evidenceWords * typeCount w) W Y
+  cleared-first = let m = r .work-room in rw (e, chained s .types) (zeros-cleared (evidenceWords * typeCount w) W (omega arith))
 
   pub first-room : evidenceWords * l .types ≤ length Y
   first-room = omega (arith, r .work-room, cleared-first .size, chained s .types)
 
-  module _ {X : List ℕ} (there : Placed w (l .types) (orderAt (l .types)) Y X) where
-    -- so the passes may begin
-    pub filling-first : Filling w l X O
-    filling-first =
-        let t = chained s .types in
-        let c = cleared-first .clear in
-        let z = there .same-length in
-        record {
-          clear = record { room = omega (arith, c .room); zero = λ i k. there .front i (omega arith) ∙ c .zero i k };
-          help = record { room = omega (arith, c .room); indexed = record { rows = s; helps = record { ordered = λ _. there .ordered } } };
-          room = r .out-room;
-        }
+  -- so the passes may begin
+  pub filling-first : {T : List ℕ} → Resolved w T → Filling w l T Y O
+  filling-first t =
+      let c = cleared-first .clear in
+      record {
+        clear = record { room = omega (arith, c .room); zero = λ i k. c .zero i (omega arith) };
+        help = record { rows = s; linked = linked s t; types = chained s .types; fields = ap (λ (x : Layout). x .fields) (s .laid .same) };
+        room = r .out-room;
+      }
 
-    -- after them both are cleared, and the words behind are those of the start
-    module _ {Z : List ℕ} (c : Cleared (orderAt (typeCount w)) X Z) where
-      pub last-size : length Z ≡ length W
-      last-size = c .size ∙ there .same-length ∙ cleared-first .size
+  -- after them all are cleared, and the words behind are those of the start
+  module _ {Z : List ℕ} (c : Cleared (trailAt (typeCount w)) Y Z) where
+    pub last-size : length Z ≡ length W
+    last-size = c .size ∙ cleared-first .size
 
-      pub cleared-last : replicate (evidenceWords * l .types) 0 ++ drop (evidenceWords * l .types) Z
-          ≡ replicate (evidenceWords * typeCount w) 0 ++ drop (evidenceWords * typeCount w) W
-      cleared-last =
-          let t = chained s .types in
-          let end : ℕ = evidenceWords * typeCount w in
-          let x : drop end Z ≡ drop end X = rest-behind (orderAt (typeCount w)) end X Z (omega arith) (c .rest) in
-          let y : drop end X ≡ drop end Y = rest-behind (orderAt (l .types) + l .types) end Y X (omega arith) (there .behind) in
-          let z : drop end Y ≡ drop end W = rest-behind (orderAt (typeCount w)) end W Y (omega arith) (cleared-first .rest) in
-          rw (t, x ∙ y ∙ z) refl
+    pub cleared-last : replicate (evidenceWords * l .types) 0 ++ drop (evidenceWords * l .types) Z
+        ≡ replicate (evidenceWords * typeCount w) 0 ++ drop (evidenceWords * typeCount w) W
+    cleared-last =
+        let end : ℕ = evidenceWords * typeCount w in
+        let x : drop end Z ≡ drop end Y = rest-behind (trailAt (typeCount w)) end Y Z (omega arith) (c .rest) in
+        rw (chained s .types, x ∙ cleared-first .rest) refl
 
 -- a pass leaves room for the next
-pub filling-after : {w : List ℕ} {l : Layout} {Right : List ℕ → Type 0} {O X W Y : List ℕ} → Filling w l W O → PassKept (typeCount w) Right O X W Y → Filling w l Y X
+pub filling-after : {w : List ℕ} {l : Layout} {Right : List ℕ → Type 0} {T O X W Y : List ℕ} → Filling w l T W O → PassKept (typeCount w) Right O X W Y → Filling w l T Y X
 filling-after f p =
     let e = p .size in
     let r = f .room in
-    record { clear = p .cleared .clear; help = helped-kept (f .help) _ (p .cleared .size) (p .cleared .rest); room = omega arith }
+    record { clear = p .cleared .clear; help = f .help; room = omega arith }
 
 -- the same after one pass
-pub filling-next : {w : List ℕ} {l : Layout} {k : EvidenceColumn} {O X W Y : List ℕ} → Filling w l W O
-    → Filled (chainGraph w) k (typeCount w) O X → Cleared (orderAt (typeCount w)) W Y → Filling w l Y X
+pub filling-next : {w : List ℕ} {l : Layout} {k : EvidenceColumn} {T O X W Y : List ℕ} → Filling w l T W O
+    → Filled (chainGraph w) k (typeCount w) O X → Cleared (trailAt (typeCount w)) W Y → Filling w l T Y X
 filling-next f p c =
     let e = p .column .size in
     let r = f .room in
-    record { clear = c .clear; help = helped-kept (f .help) _ (c .size) (c .rest); room = omega arith }
+    record { clear = c .clear; help = f .help; room = omega arith }
 
 -- one after the other they are as one
 pub passed-join : {n : ℕ} {A B : List ℕ → Type 0} {O X Y W W′ W″ : List ℕ} → PassKept n A O X W W′ → PassKept n B X Y W′ W″ → PassKept n B O Y W W″

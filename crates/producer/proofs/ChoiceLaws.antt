@@ -5,7 +5,7 @@ use mathlib.Core.List.{List}
 use mathlib.Core.Bool.{true, false}
 use Prim.Native.Nat.{ℕ, suc, zero, _+_, _-_, _≤_, _<_}
 use native.Mathlib.Omega.{arith}
-use Rattle.chains.specs.Chains.{Graph, Chain}
+use Rattle.links.specs.Chains.{Graph, Chain}
 use Rattle.table.specs.Layout.{none}
 use Rattle.evidence.specs.declared.row.EvidenceColumn.the-variants.{OutField, InField}
 use Rattle.evidence.specs.Words.{leader}

@@ -2,7 +2,7 @@
 use mathlib.Core.List.{List}
 use Prim.Native.Nat.{ℕ, _<_}
 use native.Mathlib.Omega.{arith}
-use Rattle.chains.specs.Chains.{Graph}
+use Rattle.links.specs.Chains.{Graph}
 use Rattle.evidence.specs.declared.row.EvidenceColumn.{EvidenceColumn}
 use Rattle.evidence.specs.declared.row.EvidenceColumn.the-variants.{Number, Leader, OutField, OutDistance, InField, InDepth}
 use Rattle.evidence.specs.Words.{evidenceWords, placeOf}

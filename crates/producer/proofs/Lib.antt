@@ -1,6 +1,3 @@
-pub mod Reach
-pub mod Lookups
-pub mod Levels
 pub mod PassLaws
 pub mod ChoiceLaws
 pub mod KnownLaws

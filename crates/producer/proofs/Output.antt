@@ -3,7 +3,7 @@ use mathlib.Core.Path.{_≡_, sym, ap₂, _∙_}
 use mathlib.Core.List.{List, _++_}
 use Prim.Native.Nat.{ℕ, _*_}
 use lib.ListN.{take, take-append-drop}
-use Rattle.chains.specs.Chains.{Graph}
+use Rattle.links.specs.Chains.{Graph}
 use Rattle.evidence.specs.Words.{evidenceWords}
 use Rattle.evidence.proofs.Unique.{canonical-unique}
 use Rattle.producer.specs.Produced.{Made}

@@ -10,21 +10,21 @@ use borrow.Author.Tests.{eqb-true, eqb-false, eq-eqb, ne-eqb, not-true}
 use Rattle.names.proofs.BoolLaws.{and-left, and-right, and-true, true-false, below-or-from}
 use lib.ListN.{length, getD, set, length-set}
 use lib.Seq.{getD-set-same, getD-set-other, drop-set-lt}
-use Rattle.chains.specs.Chains.{Graph}
+use Rattle.links.specs.Chains.{Graph}
 use Rattle.table.specs.Layout.{none}
 use Rattle.evidence.specs.declared.row.EvidenceColumn.{EvidenceColumn}
 use Rattle.evidence.specs.declared.row.EvidenceColumn.the-variants.{Number, Leader, OutDistance, InDepth}
 use Rattle.evidence.specs.Words.{evidenceWords, placeOf, number, leader}
 use Rattle.evidence.specs.Reaches.{Reaches, OnClosedChain}
 use Rattle.evidence.specs.Canonical.{Count, Least, Way, Way.here, Other, Mutual}
-use Rattle.chains.specs.Work.{orderAt}
-use Rattle.producer.specs.Search.{MarkedIn, Searched, Clear, Cleared}
+use Rattle.chains.specs.Work.{trailAt}
+use Rattle.searching.specs.Search.{MarkedIn, Searched, Clear, Cleared}
 use Rattle.producer.specs.Produced.{IfMarked, IfMarked.unmarked, IfMarked.marked, OnlyColumn, Filled, NumberIs, LeaderIs, LeaderIs.on, LeaderIs.off, WordIs, Right, Looked, back, FirstBack, FirstBack.not-back, FirstBack.first, LevelIs}
 use Rattle.evidence.proofs.TestLaws.{last-or-below}
 use Rattle.evidence.proofs.Counts.{count-le, count-lt, count-back, count-unique}
 use Rattle.evidence.proofs.Decide.{count-of, other-decided, reaches-decided}
 use Rattle.evidence.proofs.Marks.{reach-join, reach-end}
-use Rattle.producer.proofs.Reach.{count-as}
+use Rattle.searching.proofs.Reach.{count-as}
 
 -- no row is filled yet
 pub filled-none : (g : Graph) (k : EvidenceColumn) (W : List ℕ) → Filled g k 0 W W
@@ -113,7 +113,7 @@ module _ (g : Graph) where
       ⊎-elim (λ q. (r, q)) (λ apart. let h = number-lower b x y r apart in absurd (omega arith)) d
 
   -- after a search the work space is cleared
-  pub cleared-after : {t n : ℕ} {W X Y : List ℕ} → Searched g t W X n → Cleared (orderAt (g .types)) X Y → Cleared (orderAt (g .types)) W Y
+  pub cleared-after : {t n : ℕ} {W X Y : List ℕ} → Searched g t W X n → Cleared (trailAt (g .types)) X Y → Cleared (trailAt (g .types)) W Y
   cleared-after s c = record { clear = c .clear; size = c .size ∙ s .size; rest = c .rest ∙ s .rest }
 
   -- after a search the types that t reaches are marked

@@ -8,16 +8,15 @@ use lib.ListN.{length, getD, take, drop}
 use lib.Dec.{eqb}
 use Rattle.table.specs.declared.layout.Layout.{Layout}
 use Rattle.table.specs.Layout.{none, typeCount}
-use Rattle.chains.specs.Chains.{Graph}
-use Rattle.chains.specs.Work.{orderAt}
-use Rattle.chains.specs.Answer.{Helped}
+use Rattle.links.specs.Chains.{Graph}
+use Rattle.chains.specs.Work.{trailAt}
 use Rattle.evidence.specs.declared.row.EvidenceColumn.{EvidenceColumn}
 use Rattle.evidence.specs.declared.row.EvidenceColumn.the-variants.{Number, Leader, OutField, OutDistance, InField, InDepth}
 use Rattle.evidence.specs.Words.{evidenceWords, placeOf, wordOf, number, leader}
 use Rattle.evidence.specs.Rules.{any, goesOut, comesIn}
 use Rattle.evidence.specs.Reaches.{Reaches, OnClosedChain}
 use Rattle.evidence.specs.Canonical.{Count, Least, Way, Other, Mutual, Canonical}
-use Rattle.producer.specs.Search.{MarkedIn, levelOf, Clear, Cleared}
+use Rattle.searching.specs.Search.{MarkedIn, levelOf, Helping, Clear, Cleared}
 
 -- v, for a type that is marked, and else NONE
 pub data IfMarked (ev : List ℕ) (t : ℕ) (P : ℕ → Type 0) : ℕ → Type 0 where
@@ -103,9 +102,9 @@ abbrev pub LevelIs : (g : Graph) (s u : ℕ) → ℕ → Type 0
 LevelIs g s u r = Reaches g s u → u ≢ s → Least (λ k. Way g u k s) r
 
 -- a word of every row may be written
-pub record Filling (w : List ℕ) (l : Layout) (W O : List ℕ) : Type 0 where
-  pub clear : Clear (orderAt (typeCount w)) W
-  pub help : Helped w l W
+pub record Filling (w : List ℕ) (l : Layout) (T W O : List ℕ) : Type 0 where
+  pub clear : Clear (trailAt (typeCount w)) W
+  pub help : Helping w l T
   pub room : evidenceWords * typeCount w ≤ length O
 
 -- r is the lowest field of s by which t is entered, or NONE where there is none
@@ -123,7 +122,7 @@ pub record PassKept (n : ℕ) (Holds : List ℕ → Type 0) (O X W Y : List ℕ)
   pub right : Holds X
   pub size : length X ≡ length O
   pub rest : drop (evidenceWords * n) X ≡ drop (evidenceWords * n) O
-  pub cleared : Cleared (orderAt n) W Y
+  pub cleared : Cleared (trailAt n) W Y
 
 -- there is room for six words a type, in the work words and in the output
 pub record Rooms (types : ℕ) (W O : List ℕ) : Type 0 where

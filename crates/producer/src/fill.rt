@@ -1,8 +1,8 @@
 // Words of every row, one pass after the other.
 ghost use Rattle.table.specs.Layout.{typeCount};
-ghost use Rattle.chains.specs.Fields.{chainGraph};
-ghost use Rattle.chains.specs.Work.{orderAt};
-ghost use Rattle.producer.specs.Search.{MaySearch, Cleared};
+ghost use Rattle.links.specs.Fields.{chainGraph};
+ghost use Rattle.chains.specs.Work.{trailAt};
+ghost use Rattle.searching.specs.Search.{MaySearch, Cleared};
 ghost use Rattle.producer.specs.Produced.{Filling, WordIs, AllRight, foundFrom, ranks, levels, Filled, Whole, PassKept};
 use crate::fitting::in_field_of;
 use crate::fitting::out_field_of;
@@ -10,7 +10,6 @@ use crate::measure::depth_of;
 use crate::measure::distance_of;
 use crate::measure::leader_of;
 use crate::measure::number_of;
-use chains::work::Work;
 use evidence::row::EvidenceColumn;
 use evidence::row::EvidenceWord;
 use table::layout::Layout;
@@ -20,38 +19,45 @@ use table::numbers::TypeRow;
 fn word_for(
     words: &[u32],
     l: Layout,
+    targets: &[u16],
     k: EvidenceColumn,
     t: TypeRow,
     work: &mut [u32],
     out: &[u32],
 ) -> EvidenceWord
-    requires { ⌜ MaySearch (now words) l (t .0) (now work) ⌝ }
+    requires { ⌜ MaySearch (now words) l (now targets) (t .0) (now work) ⌝ }
     requires { ⌜ AllRight (chainGraph (now words)) (foundFrom k) (now out) ⌝ }
     ensures { λ r. ⌜ WordIs (chainGraph (now (words .entry))) k (now (out .entry)) (t .0) (r .0) ⌝ }
-    ensures { λ r. ⌜ Cleared (orderAt (typeCount (now (words .entry)))) (now (work .entry)) (now (work .exit)) ⌝ }
+    ensures { λ r. ⌜ Cleared (trailAt (typeCount (now (words .entry)))) (now (work .entry)) (now (work .exit)) ⌝ }
 {
-    let order_at = Work { types: l.types }.order_at();
     match k {
-        EvidenceColumn::Number => EvidenceWord(number_of(words, l, t, work)),
-        EvidenceColumn::Leader => EvidenceWord(leader_of(words, l, t, work, out).0),
-        EvidenceColumn::OutDistance => distance_of(words, l, t, work, out),
-        EvidenceColumn::InDepth => depth_of(words, l, t, work, out),
-        EvidenceColumn::OutField => out_field_of(words, l, &work[order_at..], t, out),
-        EvidenceColumn::InField => in_field_of(words, l, &work[order_at..], t, out),
+        EvidenceColumn::Number => EvidenceWord(number_of(words, l, targets, t, work)),
+        EvidenceColumn::Leader => EvidenceWord(leader_of(words, l, targets, t, work, out).0),
+        EvidenceColumn::OutDistance => distance_of(words, l, targets, t, work, out),
+        EvidenceColumn::InDepth => depth_of(words, l, targets, t, work, out),
+        EvidenceColumn::OutField => out_field_of(words, l, targets, t, out),
+        EvidenceColumn::InField => in_field_of(words, l, targets, t, out),
     }
 }
 
 // Writes the word of every row.
-fn fill(words: &[u32], l: Layout, k: EvidenceColumn, work: &mut [u32], out: &mut [u32])
-    requires { ⌜ Filling (now words) l (now work) (now out) ⌝ }
+fn fill(
+    words: &[u32],
+    l: Layout,
+    targets: &[u16],
+    k: EvidenceColumn,
+    work: &mut [u32],
+    out: &mut [u32],
+)
+    requires { ⌜ Filling (now words) l (now targets) (now work) (now out) ⌝ }
     requires { ⌜ AllRight (chainGraph (now words)) (foundFrom k) (now out) ⌝ }
     ensures { λ _. ⌜ Filled (chainGraph (now (words .entry))) k (typeCount (now (words .entry))) (now (out .entry)) (now (out .exit)) ⌝ }
-    ensures { λ _. ⌜ Cleared (orderAt (typeCount (now (words .entry)))) (now (work .entry)) (now (work .exit)) ⌝ }
+    ensures { λ _. ⌜ Cleared (trailAt (typeCount (now (words .entry)))) (now (work .entry)) (now (work .exit)) ⌝ }
 {
     let mut t = 0;
     while t < l.types {
         let row = TypeRow(t as u32);
-        let v = word_for(words, l, k, row, work, out);
+        let v = word_for(words, l, targets, k, row, work, out);
         let at = k.at(row);
         out[at] = v.0;
         t += 1;
@@ -59,40 +65,40 @@ fn fill(words: &[u32], l: Layout, k: EvidenceColumn, work: &mut [u32], out: &mut
 }
 
 // Numbers, and with them the leaders.
-fn fill_leaders(words: &[u32], l: Layout, work: &mut [u32], out: &mut [u32])
-    requires { ⌜ Filling (now words) l (now work) (now out) ⌝ }
+fn fill_leaders(words: &[u32], l: Layout, targets: &[u16], work: &mut [u32], out: &mut [u32])
+    requires { ⌜ Filling (now words) l (now targets) (now work) (now out) ⌝ }
     ensures { λ _. ⌜ PassKept (typeCount (now (words .entry))) (AllRight (chainGraph (now (words .entry))) ranks) (now (out .entry)) (now (out .exit)) (now (work .entry)) (now (work .exit)) ⌝ }
 {
-    fill(words, l, EvidenceColumn::Number, work, out);
-    fill(words, l, EvidenceColumn::Leader, work, out);
+    fill(words, l, targets, EvidenceColumn::Number, work, out);
+    fill(words, l, targets, EvidenceColumn::Leader, work, out);
 }
 
 // With the leaders, distances and depths.
-fn fill_levels(words: &[u32], l: Layout, work: &mut [u32], out: &mut [u32])
-    requires { ⌜ Filling (now words) l (now work) (now out) ⌝ }
+fn fill_levels(words: &[u32], l: Layout, targets: &[u16], work: &mut [u32], out: &mut [u32])
+    requires { ⌜ Filling (now words) l (now targets) (now work) (now out) ⌝ }
     requires { ⌜ AllRight (chainGraph (now words)) ranks (now out) ⌝ }
     ensures { λ _. ⌜ PassKept (typeCount (now (words .entry))) (AllRight (chainGraph (now (words .entry))) levels) (now (out .entry)) (now (out .exit)) (now (work .entry)) (now (work .exit)) ⌝ }
 {
-    fill(words, l, EvidenceColumn::OutDistance, work, out);
-    fill(words, l, EvidenceColumn::InDepth, work, out);
+    fill(words, l, targets, EvidenceColumn::OutDistance, work, out);
+    fill(words, l, targets, EvidenceColumn::InDepth, work, out);
 }
 
 // With all of these, the fields that fit.
-fn fill_fields(words: &[u32], l: Layout, work: &mut [u32], out: &mut [u32])
-    requires { ⌜ Filling (now words) l (now work) (now out) ⌝ }
+fn fill_fields(words: &[u32], l: Layout, targets: &[u16], work: &mut [u32], out: &mut [u32])
+    requires { ⌜ Filling (now words) l (now targets) (now work) (now out) ⌝ }
     requires { ⌜ AllRight (chainGraph (now words)) levels (now out) ⌝ }
     ensures { λ _. ⌜ PassKept (typeCount (now (words .entry))) (Whole (chainGraph (now (words .entry)))) (now (out .entry)) (now (out .exit)) (now (work .entry)) (now (work .exit)) ⌝ }
 {
-    fill(words, l, EvidenceColumn::OutField, work, out);
-    fill(words, l, EvidenceColumn::InField, work, out);
+    fill(words, l, targets, EvidenceColumn::OutField, work, out);
+    fill(words, l, targets, EvidenceColumn::InField, work, out);
 }
 
 // All six words, each after those that it needs.
-pub fn fill_all(words: &[u32], l: Layout, work: &mut [u32], out: &mut [u32])
-    requires { ⌜ Filling (now words) l (now work) (now out) ⌝ }
+pub fn fill_all(words: &[u32], l: Layout, targets: &[u16], work: &mut [u32], out: &mut [u32])
+    requires { ⌜ Filling (now words) l (now targets) (now work) (now out) ⌝ }
     ensures { λ _. ⌜ PassKept (typeCount (now (words .entry))) (Whole (chainGraph (now (words .entry)))) (now (out .entry)) (now (out .exit)) (now (work .entry)) (now (work .exit)) ⌝ }
 {
-    fill_leaders(words, l, work, out);
-    fill_levels(words, l, work, out);
-    fill_fields(words, l, work, out);
+    fill_leaders(words, l, targets, work, out);
+    fill_levels(words, l, targets, work, out);
+    fill_fields(words, l, targets, work, out);
 }

@@ -1,17 +1,17 @@
 // The lowest fields that fit: with which rules 5 and 6 hold.
 ghost use Prim.Native.Nat.{_<_};
-ghost use Rattle.order.specs.Order.{Indexed};
-ghost use Rattle.chains.specs.Fields.{chainGraph};
+ghost use Rattle.links.specs.Fields.{chainGraph};
 ghost use Rattle.evidence.specs.declared.row.EvidenceColumn.the-variants.{OutField, InField};
+ghost use Rattle.searching.specs.Search.{Helping};
 ghost use Rattle.producer.specs.Produced.{WordIs, AllRight, measures, InFrom};
-use chains::fields::chains_end;
 use evidence::chain::comes_in;
 use evidence::chain::goes_out;
 use evidence::chain::nearer;
 use evidence::row::EvidenceWord;
 use evidence::row::leads;
 use evidence::row::marked;
-use rows::parts::fields_start;
+use links::chains_end;
+use links::chains_start;
 use table::layout::Layout;
 use table::numbers::TypeRow;
 
@@ -19,11 +19,11 @@ use table::numbers::TypeRow;
 pub fn out_field_of(
     words: &[u32],
     l: Layout,
-    order: &[u32],
+    targets: &[u16],
     t: TypeRow,
     out: &[u32],
 ) -> EvidenceWord
-    requires { ⌜ Indexed (now words) l (now order) ⌝ }
+    requires { ⌜ Helping (now words) l (now targets) ⌝ }
     requires { ⌜ t .0 < l .types ⌝ }
     requires { ⌜ AllRight (chainGraph (now words)) measures (now out) ⌝ }
     ensures { λ r. ⌜ WordIs (chainGraph (now (words .entry))) OutField (now (out .entry)) (t .0) (r .0) ⌝ }
@@ -31,10 +31,10 @@ pub fn out_field_of(
     if !marked(out, t) {
         return EvidenceWord::NONE;
     }
-    let end = chains_end(words, l, t);
-    let mut f = fields_start(words, l, t);
+    let end = chains_end(words, t);
+    let mut f = chains_start(words, t);
     while f < end {
-        if goes_out(words, l, order, out, t, f) {
+        if goes_out(words, targets, out, t, f) {
             return EvidenceWord(f as u32);
         }
         f += 1;
@@ -46,22 +46,22 @@ pub fn out_field_of(
 fn in_from(
     words: &[u32],
     l: Layout,
-    order: &[u32],
+    targets: &[u16],
     t: TypeRow,
     s: TypeRow,
     out: &[u32],
 ) -> EvidenceWord
-    requires { ⌜ Indexed (now words) l (now order) ⌝ }
+    requires { ⌜ Helping (now words) l (now targets) ⌝ }
     requires { ⌜ s .0 < l .types ⌝ }
     ensures { λ r. ⌜ InFrom (chainGraph (now (words .entry))) (now (out .entry)) (t .0) (s .0) (r .0) ⌝ }
 {
     if !nearer(out, t, s) {
         return EvidenceWord::NONE;
     }
-    let end = chains_end(words, l, s);
-    let mut f = fields_start(words, l, s);
+    let end = chains_end(words, s);
+    let mut f = chains_start(words, s);
     while f < end {
-        if comes_in(words, l, order, out, t, f, s) {
+        if comes_in(words, targets, out, t, f, s) {
             return EvidenceWord(f as u32);
         }
         f += 1;
@@ -70,8 +70,14 @@ fn in_from(
 }
 
 // The lowest field with which rule 6 holds.
-pub fn in_field_of(words: &[u32], l: Layout, order: &[u32], t: TypeRow, out: &[u32]) -> EvidenceWord
-    requires { ⌜ Indexed (now words) l (now order) ⌝ }
+pub fn in_field_of(
+    words: &[u32],
+    l: Layout,
+    targets: &[u16],
+    t: TypeRow,
+    out: &[u32],
+) -> EvidenceWord
+    requires { ⌜ Helping (now words) l (now targets) ⌝ }
     requires { ⌜ t .0 < l .types ⌝ }
     requires { ⌜ AllRight (chainGraph (now words)) measures (now out) ⌝ }
     ensures { λ r. ⌜ WordIs (chainGraph (now (words .entry))) InField (now (out .entry)) (t .0) (r .0) ⌝ }
@@ -84,7 +90,7 @@ pub fn in_field_of(words: &[u32], l: Layout, order: &[u32], t: TypeRow, out: &[u
     }
     let mut s = 0;
     while s < l.types {
-        let f = in_from(words, l, order, t, TypeRow(s as u32), out);
+        let f = in_from(words, l, targets, t, TypeRow(s as u32), out);
         if !f.is_none() {
             return f;
         }

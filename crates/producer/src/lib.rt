@@ -8,41 +8,38 @@
 // through the chain fields from one type, so all of them take as many steps as there are types times fields, and a few times that. A matrix
 // of what reaches what is not needed: among the types that t reaches, those with its number are those that reach it back.
 //
-// The search takes the parts of the work table that other searches have for marks and counts. The third holds the types in the order of their
-// names, so that the type that a field names is found in a few steps. All of them are left 0.
+// The search takes the parts of the work table that other searches have for marks and counts. What every field leads to is looked up once, into an array
+// of the call's own.
 ghost use mathlib.Core.Path.{_≡_};
 ghost use mathlib.Core.List.{_++_};
 ghost use Prim.Native.Nat.{_*_};
 ghost use lib.ListN.{drop, replicate};
 ghost use Rattle.table.specs.Layout.{typeCount};
 ghost use Rattle.rows.specs.Readable.{SoundRows};
-ghost use Rattle.order.specs.Order.{TypesApart};
-ghost use Rattle.chains.specs.Fields.{chainGraph};
+ghost use Rattle.links.specs.Fields.{chainGraph};
 ghost use Rattle.evidence.specs.Words.{evidenceWords};
 ghost use Rattle.producer.specs.Produced.{Rooms, Made};
 use crate::fill::fill_all;
 use chains::cycle::clear;
-use chains::work::Work;
 use evidence::row::EvidenceColumn;
-use order::sort::sort_from;
+use links::link;
 use table::layout::Layout;
 
 mod fill;
 mod fitting;
 mod measure;
-mod search;
 
 // Writes six words a type to the front of the output, and leaves as many work words 0.
 pub fn make_evidence(words: &[u32], l: Layout, work: &mut [u32], out: &mut [u32])
     requires { ⌜ SoundRows (now words) l ⌝ }
     requires { ⌜ Rooms (typeCount (now words)) (now work) (now out) ⌝ }
-    requires { ⌜ TypesApart (now words) ⌝ }
     ensures { λ _. ⌜ Made (chainGraph (now (words .entry))) (now (out .entry)) (now (out .exit)) ⌝ }
     ensures { λ _. ⌜ now (work .exit) ≡ replicate (evidenceWords * typeCount (now (words .entry))) 0 ++ drop (evidenceWords * typeCount (now (words .entry))) (now (work .entry)) ⌝ }
 {
-    let order_at = Work { types: l.types }.order_at();
-    clear(work, order_at);
-    sort_from(words, l, work, order_at);
-    fill_all(words, l, work, out);
-    clear(work, EvidenceColumn::COUNT * l.types);
+    let mut targets = [0; 8192];
+    link(words, l, &mut targets);
+    let room = EvidenceColumn::COUNT * l.types;
+    clear(work, room);
+    fill_all(words, l, &targets, work, out);
+    clear(work, room);
 }

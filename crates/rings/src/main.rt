@@ -1,8 +1,13 @@
 // A ring of 1,024 input objects and a ladder of 1,024, each searched to the end: the first cycle of a type of the ring goes through all
 // of it, and no type of the ladder has one, though the number of ways down the ladder has more than two hundred digits.
+ghost use Prim.Native.Nat.{_*_, _≤_, _<_};
+ghost use lib.ListN.{length};
+ghost use Rattle.rows.specs.Readable.{SoundRows};
+ghost use Rattle.chains.specs.Work.{workWords};
 use chains::cycle::clear;
 use chains::cycle::first_cycle;
 use chains::work::Work;
+use links::link;
 use shapes::LADDER_FIELDS;
 use shapes::LADDER_WORDS;
 use shapes::RING_FIELDS;
@@ -12,6 +17,7 @@ use shapes::TEXT;
 use shapes::TYPES;
 use shapes::write_table;
 use shapes::write_text;
+use table::layout::Layout;
 use table::layout::layout_of;
 use table::layout::wide;
 use table::numbers::TypeRow;
@@ -35,6 +41,18 @@ fn print(n: usize) {
     io::print_decimal(1, n as u64);
 }
 
+// The first cycle of type t, with work words that are cleared and what the fields lead to.
+fn find(words: &[u32], l: Layout, t: TypeRow, work: &mut [u32], out: &mut [u32]) -> usize
+    requires { ⌜ SoundRows (now words) l ⌝ }
+    requires { ⌜ t .0 < l .types ⌝ }
+    requires { ⌜ workWords * l .types ≤ length (now work) ⌝ }
+{
+    let mut targets = [0; 8192];
+    link(words, l, &mut targets);
+    clear(work, Work { types: l.types }.size());
+    first_cycle(words, &targets, t, work, out)
+}
+
 // Prints the count of type t, and how many rows of its first cycle are those of the ring from t on.
 fn search(label: &[u8], text: &[u8], words: &[u32], t: u32, work: &mut [u32], out: &mut [u32]) {
     io::write_all(1, label);
@@ -43,7 +61,7 @@ fn search(label: &[u8], text: &[u8], words: &[u32], t: u32, work: &mut [u32], ou
         return;
     };
     let l = layout_of(words);
-    let room = Work { types: l.types }.order_at(); // for no order: a lookup walks
+    let room = Work { types: l.types }.size();
     if wide(t) >= l.types {
         io::write_all(1, b" no type\n");
         return;
@@ -52,8 +70,7 @@ fn search(label: &[u8], text: &[u8], words: &[u32], t: u32, work: &mut [u32], ou
         io::write_all(1, b" no room\n");
         return;
     }
-    clear(work, room);
-    let n = first_cycle(words, l, TypeRow(t), &mut work[..room], out);
+    let n = find(words, l, TypeRow(t), work, out);
     print(n);
     if n <= out.len() {
         print(in_order(&out[..n], t));

@@ -1,5 +1,5 @@
 -- Laws of `find`, as a loop from the lowest number up meets them; `n` is the number behind the run.
-use mathlib.Core.Path.{_≡_, refl, subst}
+use mathlib.Core.Path.{_≡_, refl, sym, ap, subst, _∙_}
 use mathlib.Core.Bool.{Bool, true, false}
 use mathlib.Core.Logic.{⊎-elim}
 use Prim.Native.Nat.{ℕ, zero, suc, _+_, _-_, _≤_, _<_}
@@ -19,7 +19,7 @@ module _ (p : ℕ → Bool) where
   unfolding find
   next i left e = rw e
 
-  none-left : (i : ℕ) → find p i 0 ≡ i
+  pub none-left : (i : ℕ) → find p i 0 ≡ i
   unfolding find
   none-left i = refl
 
@@ -66,4 +66,36 @@ module _ (p : ℕ → Bool) where
       ⊎-elim (λ q. subst (λ (x : ℕ). p x ≡ false) (eqb-true i j q) e)
       (λ q. let n = eqb-false i j q in find-least left (suc i) j (omega arith) g)
       (decide (eqb i j)))
+      (decide (p i))
+
+  -- one number more at the end of the run: what was found stays
+  pub find-kept : (left i : ℕ) → find p i left < i + left → find p i (suc left) ≡ find p i left
+  find-kept zero i h = let g : i < i + 0 = rw (none-left i) at h in absurd (omega arith)
+  find-kept (suc left) i h =
+      ⊎-elim (λ e. here i (suc left) e ∙ sym (here i left e))
+      (λ e.
+      let g : find p (suc i) left < i + suc left = rw (next i left e) at h in
+      let k : find p (suc i) left < suc i + left = omega arith in
+      next i (suc left) e ∙ find-kept left (suc i) k ∙ sym (next i left e))
+      (decide (p i))
+
+  -- where nothing was found, the new number is found if p holds of it, and else nothing
+  pub find-last : (left i : ℕ) → i + left ≤ find p i left → p (i + left) ≡ true → find p i (suc left) ≡ i + left
+  find-last zero i h e = let z : i + 0 ≡ i = omega arith in here i 0 (rw z at e) ∙ sym z
+  find-last (suc left) i h e =
+      ⊎-elim (λ d. let g : i + suc left ≤ i = rw (here i left d) at h in absurd (omega arith))
+      (λ d.
+      let g : i + suc left ≤ find p (suc i) left = rw (next i left d) at h in
+      let s : i + suc left ≡ suc i + left = omega arith in
+      next i (suc left) d ∙ find-last left (suc i) (omega arith) (rw s at e) ∙ sym s)
+      (decide (p i))
+
+  pub find-past : (left i : ℕ) → i + left ≤ find p i left → p (i + left) ≡ false → find p i (suc left) ≡ suc (i + left)
+  find-past zero i h e = let z : i + 0 ≡ i = omega arith in next i 0 (rw z at e) ∙ none-left (suc i) ∙ ap suc (sym z)
+  find-past (suc left) i h e =
+      ⊎-elim (λ d. let g : i + suc left ≤ i = rw (here i left d) at h in absurd (omega arith))
+      (λ d.
+      let g : i + suc left ≤ find p (suc i) left = rw (next i left d) at h in
+      let s : i + suc left ≡ suc i + left = omega arith in
+      next i (suc left) d ∙ find-past left (suc i) (omega arith) (rw s at e) ∙ ap suc (sym s))
       (decide (p i))

@@ -1,4 +1,4 @@
--- What an answer of `find_type` says.
+-- What an answer of `look_up` says.
 use mathlib.Core.Path.{_≡_, sym, ap, _∙_}
 use mathlib.Core.Bool.{true, false}
 use mathlib.Core.Logic.{⊎-elim}
@@ -42,7 +42,7 @@ pub nothing-none : (r n : ℕ) → foundAt r n ≡ Nothing → n ≤ r
 nothing-none r n e =
     ⊎-elim (λ b. never (foundAt r n) (record { 0 = r }) (found-at r n (ltb-true r n b)) e) (λ b. ltb-false r n b) (decide (ltb r n))
 
--- what is known where `find_type` answered At t: the name is a type's, and t is its row
+-- what is known where `look_up` answered At t: the name is a type's, and t is its row
 pub record Named (w : List ℕ) (l : Layout) (n : ℕ) (t : TypeRow) : Type 0 where
   pub there : defined w n ≡ true
   pub row : t .0 ≡ typeNamed w n

@@ -1,4 +1,5 @@
 pub mod FindLaws
+pub mod IndexLaws
 pub mod FoundTypes
 pub mod PartLaws
 pub mod FoundRows

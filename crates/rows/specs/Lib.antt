@@ -3,3 +3,4 @@ pub mod Parts
 pub mod Types
 pub mod Readable
 pub mod Found
+pub mod Index

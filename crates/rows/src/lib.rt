@@ -6,6 +6,7 @@
 // slice, with what a rule may count on in it (`NamePart`, `FieldPart`, `ArgumentPart`), so that a rule is defined and proved over its
 // part and needs no index arithmetic. All five runs are one function, `run_of`. Finding a type by its name gives its one row or nothing.
 pub mod cells;
+pub mod index;
 pub mod parts;
 pub mod search;
 pub mod spelling;

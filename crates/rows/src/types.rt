@@ -4,7 +4,6 @@ ghost use Prim.Native.Nat.{_<_};
 ghost use Rattle.table.specs.Layout.{rootWords, Laid, typeName, typeKind, typeFlag, root};
 ghost use Rattle.table.specs.Answers.{kindNumber};
 ghost use Rattle.rows.specs.Readable.{SoundRows};
-ghost use Rattle.rows.specs.Types.{typeNamed, foundAt};
 use table::kinds::Kind;
 use table::layout::Layout;
 use table::layout::word_at;
@@ -56,20 +55,4 @@ pub fn root_name(words: &[u32], l: Layout, operation: u32) -> NameNo
     ensures { λ r. ⌜ r .0 ≡ root (now (words .entry)) operation ⌝ }
 {
     NameNo(word_at(words, l.roots(), operation as usize))
-}
-
-// The type of the name.
-pub fn find_type(words: &[u32], l: Layout, name: NameNo) -> FoundType
-    requires { ⌜ Laid (now words) l ⌝ }
-    ensures { λ r. ⌜ r ≡ foundAt (typeNamed (now (words .entry)) (name .0)) (l .types) ⌝ }
-{
-    let mut t = 0;
-    while t < l.types {
-        let row = TypeRow(t as u32);
-        if type_name(words, l, row).same(name) {
-            return FoundType::At(row);
-        }
-        t += 1;
-    }
-    FoundType::Nothing
 }

@@ -6,7 +6,3 @@ use Rattle.inputs.specs.Bounds.{mostOfArguments}
 -- a field: these, 5, and 3 or 19
 abbrev pub mostOfField : ℕ
 mostOfField = mostOfArguments + 2
-
--- the roots: 2 or 3, and 4, each; and 1
-abbrev pub mostOfRoots : ℕ
-mostOfRoots = 7

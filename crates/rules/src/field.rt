@@ -3,14 +3,13 @@ ghost use Prim.Native.Nat.{_+_, _*_, _≤_, _<_};
 ghost use Rattle.records.specs.Records.{Emitted};
 ghost use Rattle.rows.specs.Parts.{fieldRows};
 ghost use Rattle.rows.specs.Readable.{FieldPart};
-ghost use Rattle.order.specs.Order.{Legible};
+ghost use Rattle.rows.specs.Index.{Legible};
 ghost use Rattle.rules.specs.Field.{outputTypeRecord, fieldDefinitionRecord, fieldRecord, fieldsRecords};
 ghost use Rattle.rules.specs.Bounds.{mostOfField};
 ghost use Rattle.inputs.specs.Bounds.{mostOfArguments};
 ghost use Rattle.table.specs.Layout.{mostFields};
 use inputs::input_object::validate_argument_definitions;
 use inputs::type_system_name::validate_type_system_name;
-use order::find::look_up;
 use records::Place;
 use records::Record;
 use records::put;
@@ -18,6 +17,7 @@ use records::used;
 use rows::cells::field_name;
 use rows::cells::field_rows;
 use rows::cells::field_type;
+use rows::index::look_up;
 use rows::parts::arguments_of;
 use rows::parts::arguments_start;
 use rows::spelling::is_builtin;
@@ -34,18 +34,18 @@ fn validate_output_type(
     text: &[u8],
     words: &[u32],
     l: Layout,
-    order: &[u32],
+    index: &[u16],
     t: TypeRow,
     name: NameNo,
     row: u32,
     out: &mut [u32],
 ) -> usize
-    requires { ⌜ Legible (now text) (now words) l (now order) ⌝ }
+    requires { ⌜ Legible (now text) (now words) l (now index) ⌝ }
     requires { ⌜ name .0 < l .names ⌝ }
     ensures { λ n. ⌜ Emitted (outputTypeRecord (now (text .entry)) (now (words .entry)) (t .0) (name .0) row) (now (out .entry)) (now (out .exit)) n ⌝ }
     ensures { λ n. ⌜ n ≤ 1 ⌝ }
 {
-    match look_up(words, l, order, name) {
+    match look_up(words, l, index, name) {
         FoundType::Nothing => {
             if is_builtin(text, words, l, name) {
                 return 0;
@@ -69,13 +69,13 @@ fn validate_field_definition(
     text: &[u8],
     words: &[u32],
     l: Layout,
-    order: &[u32],
+    index: &[u16],
     t: TypeRow,
     name: NameNo,
     f: usize,
     out: &mut [u32],
 ) -> usize
-    requires { ⌜ Legible (now text) (now words) l (now order) ⌝ }
+    requires { ⌜ Legible (now text) (now words) l (now index) ⌝ }
     requires { ⌜ (t .0 < l .types) × (name .0 < l .names) × (f < l .fields) ⌝ }
     ensures { λ n. ⌜ Emitted (fieldDefinitionRecord (now (text .entry)) (now (words .entry)) (t .0) (name .0) f) (now (out .entry)) (now (out .exit)) n ⌝ }
     ensures { λ n. ⌜ n ≤ mostOfArguments + 1 ⌝ }
@@ -89,7 +89,7 @@ fn validate_field_definition(
             text,
             words,
             l,
-            order,
+            index,
             t,
             first,
             arguments_of(words, l, f),
@@ -102,28 +102,28 @@ fn validate_field(
     text: &[u8],
     words: &[u32],
     l: Layout,
-    order: &[u32],
+    index: &[u16],
     t: TypeRow,
     first: usize,
     fields: &[u32],
     i: usize,
     out: &mut [u32],
 ) -> usize
-    requires { ⌜ Legible (now text) (now words) l (now order) ⌝ }
+    requires { ⌜ Legible (now text) (now words) l (now index) ⌝ }
     requires { ⌜ (t .0 < l .types) × (i < fieldRows (now fields)) ⌝ }
     requires { ⌜ FieldPart l first (now fields) ⌝ }
     ensures { λ n. ⌜ Emitted (fieldRecord (now (text .entry)) (now (words .entry)) (t .0) first (now (fields .entry)) i) (now (out .entry)) (now (out .exit)) n ⌝ }
     ensures { λ n. ⌜ n ≤ mostOfField ⌝ }
 {
     let f = first + i;
-    let n = validate_field_definition(text, words, l, order, t, field_name(fields, i), f, out);
+    let n = validate_field_definition(text, words, l, index, t, field_name(fields, i), f, out);
     let at = used(n, out.len());
     n
         + validate_output_type(
             text,
             words,
             l,
-            order,
+            index,
             t,
             field_type(fields, i),
             f as u32,
@@ -135,13 +135,13 @@ pub fn validate_field_definitions(
     text: &[u8],
     words: &[u32],
     l: Layout,
-    order: &[u32],
+    index: &[u16],
     t: TypeRow,
     first: usize,
     fields: &[u32],
     out: &mut [u32],
 ) -> usize
-    requires { ⌜ Legible (now text) (now words) l (now order) ⌝ }
+    requires { ⌜ Legible (now text) (now words) l (now index) ⌝ }
     requires { ⌜ t .0 < l .types ⌝ }
     requires { ⌜ FieldPart l first (now fields) ⌝ }
     ensures { λ n. ⌜ Emitted (fieldsRecords (now (text .entry)) (now (words .entry)) (t .0) first (now (fields .entry))) (now (out .entry)) (now (out .exit)) n ⌝ }
@@ -152,7 +152,7 @@ pub fn validate_field_definitions(
     let mut i = 0;
     while i < rows {
         let at = used(n, out.len());
-        n += validate_field(text, words, l, order, t, first, fields, i, &mut out[at..]);
+        n += validate_field(text, words, l, index, t, first, fields, i, &mut out[at..]);
         i += 1;
     }
     n

@@ -2,16 +2,16 @@
 ghost use Prim.Native.Nat.{_+_, _≤_, _<_};
 ghost use Rattle.records.specs.Records.{Emitted};
 ghost use Rattle.rows.specs.Readable.{NamePart};
-ghost use Rattle.order.specs.Order.{Indexed};
+ghost use Rattle.rows.specs.Index.{Indexed};
 ghost use Rattle.rules.specs.Union.{memberRecord, membersRecords, unionRecords};
 ghost use Rattle.table.specs.Layout.{mostMembers};
-use order::find::look_up;
 use records::Place;
 use records::Record;
 use records::put;
 use records::used;
 use rows::cells::member_name;
 use rows::cells::member_rows;
+use rows::index::look_up;
 use rows::types::FoundType;
 use rows::types::type_kind;
 use table::kinds::Kind;
@@ -23,17 +23,17 @@ use table::numbers::TypeRow;
 fn validate_union_member(
     words: &[u32],
     l: Layout,
-    order: &[u32],
+    index: &[u16],
     t: TypeRow,
     name: NameNo,
     row: u32,
     out: &mut [u32],
 ) -> usize
-    requires { ⌜ Indexed (now words) l (now order) ⌝ }
+    requires { ⌜ Indexed (now words) l (now index) ⌝ }
     ensures { λ n. ⌜ Emitted (memberRecord (now (words .entry)) (t .0) (name .0) row) (now (out .entry)) (now (out .exit)) n ⌝ }
     ensures { λ n. ⌜ n ≤ 1 ⌝ }
 {
-    match look_up(words, l, order, name) {
+    match look_up(words, l, index, name) {
         FoundType::Nothing => put(
             out,
             Record::undefined_definition(t, name, Place::MEMBER, row),
@@ -50,13 +50,13 @@ fn validate_union_member(
 fn validate_union_members(
     words: &[u32],
     l: Layout,
-    order: &[u32],
+    index: &[u16],
     t: TypeRow,
     first: usize,
     members: &[u32],
     out: &mut [u32],
 ) -> usize
-    requires { ⌜ Indexed (now words) l (now order) ⌝ }
+    requires { ⌜ Indexed (now words) l (now index) ⌝ }
     requires { ⌜ NamePart l first (now members) ⌝ }
     ensures { λ n. ⌜ Emitted (membersRecords (now (words .entry)) (t .0) first (now (members .entry))) (now (out .entry)) (now (out .exit)) n ⌝ }
     ensures { λ n. ⌜ n ≤ mostMembers ⌝ }
@@ -69,7 +69,7 @@ fn validate_union_members(
         n += validate_union_member(
             words,
             l,
-            order,
+            index,
             t,
             member_name(members, i),
             (first + i) as u32,
@@ -83,18 +83,18 @@ fn validate_union_members(
 pub fn validate_union_definition(
     words: &[u32],
     l: Layout,
-    order: &[u32],
+    index: &[u16],
     t: TypeRow,
     first: usize,
     members: &[u32],
     out: &mut [u32],
 ) -> usize
-    requires { ⌜ Indexed (now words) l (now order) ⌝ }
+    requires { ⌜ Indexed (now words) l (now index) ⌝ }
     requires { ⌜ NamePart l first (now members) ⌝ }
     ensures { λ n. ⌜ Emitted (unionRecords (now (words .entry)) (t .0) first (now (members .entry))) (now (out .entry)) (now (out .exit)) n ⌝ }
     ensures { λ n. ⌜ n ≤ mostMembers + 1 ⌝ }
 {
-    let n = validate_union_members(words, l, order, t, first, members, out);
+    let n = validate_union_members(words, l, index, t, first, members, out);
     if member_rows(members) == 0 {
         let at = used(n, out.len());
         return n + put(&mut out[at..], Record::empty_member_set(t));

@@ -1,7 +1,8 @@
 -- How many records a type, and a whole table, can list at most, by the limits of the sections: below 2^53.
 use Prim.Native.Nat.{ℕ, _+_, _*_}
 use Rattle.table.specs.Layout.{mostTypes, mostEdges, mostFields}
-use Rattle.rules.specs.Bounds.{mostOfField, mostOfRoots}
+use Rattle.rules.specs.Bounds.{mostOfField}
+use Rattle.roots.specs.Bounds.{mostOfRoots}
 use Rattle.implementing.specs.Bounds.{mostOfEdges}
 
 -- the fields of a type, and 7

@@ -19,11 +19,12 @@ use Rattle.rows.specs.Types.{typeNamed, defined, isInterface, reserved, builtin
 use Rattle.inputs.specs.Names.{nameRecord}
 use Rattle.rules.specs.Enum.{valueRecord, enumRecords}
 use Rattle.rules.specs.Union.{memberRecord, unionRecords}
-use Rattle.rules.specs.Schema.{rootType, firstRoot, rootRepeat, rootRecords, queryRecord, schemaRecords}
+use Rattle.roots.specs.Schema.{rootType, firstRoot, rootRepeat, rootRecords, queryRecord, schemaRecords}
 use Rattle.inputs.specs.InputObject.{inputTypeRecord, argumentRecord, repeatRecord, argumentsRecords, inputFieldRecord, inputFieldsRecords, cycleRecord, inputObjectRecords}
 use Rattle.rules.specs.Field.{outputTypeRecord, fieldRecord, fieldsRecords}
 use Rattle.comparing.specs.FieldTypes.{layersFit, wrapsFit, implements, objectMember, namesMatch, fieldTypeFits}
-use Rattle.implementing.specs.Interface.{selfEdge, undefinedEdge, definedEdges, interfaceFields, transitiveEdge, transitiveEdges, missingField, fieldTypeRecord, fieldArguments, implementsRecords, implementedFields, edgesRecords}
+use Rattle.matching.specs.Fields.{interfaceFields, missingField, fieldTypeRecord, fieldArguments}
+use Rattle.implementing.specs.Interface.{selfEdge, undefinedEdge, definedEdges, transitiveEdge, transitiveEdges, implementsRecords, implementedFields, edgesRecords}
 use Rattle.comparing.specs.Arguments.{interfaceArgument, extraArgument, implementingArguments}
 use Rattle.validation.specs.Object.{objectRecords, interfaceRecords}
 use Rattle.validation.specs.Validation.{kindRecords, typeRecords, records}

@@ -13,7 +13,7 @@ use Rattle.rows.specs.Parts.{fieldsOf, membersOf, valuesOf}
 use Rattle.inputs.specs.Names.{nameRecord}
 use Rattle.rules.specs.Enum.{enumRecords}
 use Rattle.rules.specs.Union.{unionRecords}
-use Rattle.rules.specs.Schema.{schemaRecords}
+use Rattle.roots.specs.Schema.{schemaRecords}
 use Rattle.inputs.specs.InputObject.{inputObjectRecords}
 use Rattle.validation.specs.Object.{objectRecords, interfaceRecords}
 

@@ -3,7 +3,8 @@ ghost use Prim.Native.Nat.{_+_, _*_, _≤_, _<_};
 ghost use lib.ListN.{length};
 ghost use Rattle.records.specs.Records.{Emitted};
 ghost use Rattle.rows.specs.Readable.{Readable};
-ghost use Rattle.order.specs.Order.{Indexed, Legible};
+ghost use Rattle.rows.specs.Index.{Indexed, Legible};
+ghost use Rattle.rising.specs.Lists.{Prepared};
 ghost use Rattle.validation.specs.Validation.{ofUnion, ofEnum, ofInputObject, kindRecords, typeList, typesRecords, countsOf};
 ghost use Rattle.validation.specs.Validation.{records as listOf};
 ghost use Rattle.validation.specs.Bounds.{mostOfKind, mostOfType, mostRecords};
@@ -14,6 +15,7 @@ use inputs::input_object::validate_input_object_definition;
 use inputs::type_system_name::validate_type_system_name;
 use records::Place;
 use records::used;
+use roots::schema::validate_schema_definition;
 use rows::parts::fields_of;
 use rows::parts::fields_start;
 use rows::parts::members_of;
@@ -24,21 +26,20 @@ use rows::types::kind_of;
 use rows::types::type_flag;
 use rows::types::type_name;
 use rules::enum_::validate_enum_definition;
-use rules::schema::validate_schema_definition;
 use rules::union_::validate_union_definition;
 use table::kinds::Kind;
 use table::layout::Layout;
 use table::numbers::TypeRow;
 
 // The parts of a union, an enum and an input object, handed on.
-fn validate_union(words: &[u32], l: Layout, order: &[u32], t: TypeRow, out: &mut [u32]) -> usize
-    requires { ⌜ Indexed (now words) l (now order) ⌝ }
+fn validate_union(words: &[u32], l: Layout, index: &[u16], t: TypeRow, out: &mut [u32]) -> usize
+    requires { ⌜ Indexed (now words) l (now index) ⌝ }
     requires { ⌜ t .0 < l .types ⌝ }
     ensures { λ n. ⌜ Emitted (ofUnion (now (words .entry)) (t .0)) (now (out .entry)) (now (out .exit)) n ⌝ }
     ensures { λ n. ⌜ n ≤ mostMembers + 1 ⌝ }
 {
     let first = members_start(words, l, t);
-    validate_union_definition(words, l, order, t, first, members_of(words, l, t), out)
+    validate_union_definition(words, l, index, t, first, members_of(words, l, t), out)
 }
 
 fn validate_enum(text: &[u8], words: &[u32], l: Layout, t: TypeRow, out: &mut [u32]) -> usize
@@ -55,12 +56,12 @@ fn validate_input_object(
     text: &[u8],
     words: &[u32],
     l: Layout,
-    order: &[u32],
+    index: &[u16],
     t: TypeRow,
     cycle: u32,
     out: &mut [u32],
 ) -> usize
-    requires { ⌜ Legible (now text) (now words) l (now order) ⌝ }
+    requires { ⌜ Legible (now text) (now words) l (now index) ⌝ }
     requires { ⌜ t .0 < l .types ⌝ }
     ensures { λ n. ⌜ Emitted (ofInputObject (now (text .entry)) (now (words .entry)) cycle (t .0)) (now (out .entry)) (now (out .exit)) n ⌝ }
     ensures { λ n. ⌜ n ≤ 2 * mostFields + 2 ⌝ }
@@ -70,7 +71,7 @@ fn validate_input_object(
         text,
         words,
         l,
-        order,
+        index,
         t,
         cycle,
         first,
@@ -84,23 +85,24 @@ fn validate_kind(
     text: &[u8],
     words: &[u32],
     l: Layout,
-    order: &[u32],
+    index: &[u16],
+    lists: &[u16],
     t: TypeRow,
     cycle: u32,
     out: &mut [u32],
 ) -> usize
-    requires { ⌜ Legible (now text) (now words) l (now order) ⌝ }
+    requires { ⌜ Prepared (now text) (now words) l (now index) (now lists) ⌝ }
     requires { ⌜ t .0 < l .types ⌝ }
     ensures { λ n. ⌜ Emitted (kindRecords (now (text .entry)) (now (words .entry)) cycle (t .0)) (now (out .entry)) (now (out .exit)) n ⌝ }
     ensures { λ n. ⌜ n ≤ mostOfKind ⌝ }
 {
     match kind_of(words, l, t) {
         Kind::Scalar => 0,
-        Kind::Object => validate_object_type_definition(text, words, l, order, t, out),
-        Kind::Interface => validate_interface_definition(text, words, l, order, t, out),
-        Kind::Union => validate_union(words, l, order, t, out),
+        Kind::Object => validate_object_type_definition(text, words, l, index, lists, t, out),
+        Kind::Interface => validate_interface_definition(text, words, l, index, lists, t, out),
+        Kind::Union => validate_union(words, l, index, t, out),
         Kind::Enum => validate_enum(text, words, l, t, out),
-        Kind::InputObject => validate_input_object(text, words, l, order, t, cycle, out),
+        Kind::InputObject => validate_input_object(text, words, l, index, t, cycle, out),
     }
 }
 
@@ -109,12 +111,13 @@ fn validate_type(
     text: &[u8],
     words: &[u32],
     l: Layout,
-    order: &[u32],
+    index: &[u16],
+    lists: &[u16],
     t: TypeRow,
     cycle: u32,
     out: &mut [u32],
 ) -> usize
-    requires { ⌜ Legible (now text) (now words) l (now order) ⌝ }
+    requires { ⌜ Prepared (now text) (now words) l (now index) (now lists) ⌝ }
     requires { ⌜ t .0 < l .types ⌝ }
     ensures { λ n. ⌜ Emitted (typeList (now (text .entry)) (now (words .entry)) cycle (t .0)) (now (out .entry)) (now (out .exit)) n ⌝ }
     ensures { λ n. ⌜ n ≤ mostOfType ⌝ }
@@ -131,7 +134,7 @@ fn validate_type(
         out,
     );
     let at = used(n, out.len());
-    n + validate_kind(text, words, l, order, t, cycle, &mut out[at..])
+    n + validate_kind(text, words, l, index, lists, t, cycle, &mut out[at..])
 }
 
 // The types in row order; `cycles` has each type's count.
@@ -139,11 +142,12 @@ fn validate_types(
     text: &[u8],
     words: &[u32],
     l: Layout,
-    order: &[u32],
+    index: &[u16],
+    lists: &[u16],
     cycles: &[u32],
     out: &mut [u32],
 ) -> usize
-    requires { ⌜ Legible (now text) (now words) l (now order) ⌝ }
+    requires { ⌜ Prepared (now text) (now words) l (now index) (now lists) ⌝ }
     requires { ⌜ l .types ≤ length (now cycles) ⌝ }
     ensures { λ n. ⌜ Emitted (typesRecords (now (text .entry)) (now (words .entry)) (countsOf (now (cycles .entry)))) (now (out .entry)) (now (out .exit)) n ⌝ }
     ensures { λ n. ⌜ n ≤ mostOfType * mostTypes ⌝ }
@@ -157,7 +161,8 @@ fn validate_types(
             text,
             words,
             l,
-            order,
+            index,
+            lists,
             TypeRow(t as u32),
             cycles[t],
             &mut out[at..],
@@ -172,16 +177,17 @@ pub fn validate_schema(
     text: &[u8],
     words: &[u32],
     l: Layout,
-    order: &[u32],
+    index: &[u16],
+    lists: &[u16],
     cycles: &[u32],
     out: &mut [u32],
 ) -> usize
-    requires { ⌜ Legible (now text) (now words) l (now order) ⌝ }
+    requires { ⌜ Prepared (now text) (now words) l (now index) (now lists) ⌝ }
     requires { ⌜ l .types ≤ length (now cycles) ⌝ }
     ensures { λ n. ⌜ Emitted (listOf (now (text .entry)) (now (words .entry)) (countsOf (now (cycles .entry)))) (now (out .entry)) (now (out .exit)) n ⌝ }
     ensures { λ n. ⌜ n ≤ mostRecords ⌝ }
 {
-    let n = validate_schema_definition(words, l, order, out);
+    let n = validate_schema_definition(words, l, index, out);
     let at = used(n, out.len());
-    n + validate_types(text, words, l, order, cycles, &mut out[at..])
+    n + validate_types(text, words, l, index, lists, cycles, &mut out[at..])
 }

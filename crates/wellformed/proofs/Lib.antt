@@ -1,6 +1,6 @@
 pub mod LimitLaws
 pub mod EndLaws
-pub mod TextLaws
+pub mod WordLaws
 pub mod SoundLaws
 pub mod SoundWhole
 pub mod AnswerLaws

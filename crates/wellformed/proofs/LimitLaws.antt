@@ -2,13 +2,12 @@
 use mathlib.Core.Path.{_≡_, refl, sym, _∙_}
 use mathlib.Core.Bool.{true, _&&_}
 use mathlib.Core.List.{List}
-use Prim.Native.Nat.{ℕ, _+_, _≤_, _<_}
-use native.Mathlib.Omega.{arith}
+use Prim.Native.Nat.{ℕ, _+_, _≤_}
 use lib.ListN.{length}
 use lib.Dec.{leb, eqb}
 use borrow.Author.Tests.{leb-true, eqb-true}
 use Rattle.table.specs.declared.layout.Layout.{Layout}
-use Rattle.table.specs.Layout.{rootWords, typeWords, fieldWords, argumentWords, mostNames, mostTypes, mostEdges, mostFields, mostArguments, mostMembers, mostValues, mostText, tableLength, layoutOf, Inside, Laid, InRange, nameStarts, nameLengths, typeColumn, edgeNames, fieldColumn, argumentColumn, memberNames, valueNames, roots, typesAt, edgesAt, fieldsAt, argumentsAt, membersAt, valuesAt, rootsAt}
+use Rattle.table.specs.Layout.{rootWords, mostNames, mostTypes, mostEdges, mostFields, mostArguments, mostMembers, mostValues, mostText, layoutOf, Laid, typesAt, edgesAt, fieldsAt, argumentsAt, membersAt, valuesAt, rootsAt}
 use Rattle.wellformed.specs.WellFormed.{inLimits, rightLength}
 use Rattle.names.proofs.BoolLaws.{and-left, and-right}
 use Rattle.table.proofs.LayoutLaws.{roots-end}

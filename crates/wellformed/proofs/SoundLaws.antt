@@ -1,91 +1,28 @@
 -- Refusal 0 gives every fact of a sound table: each test of a refusal is taken apart, and each `every` is used at one row.
-use mathlib.Core.Path.{_≡_, refl, sym}
-use mathlib.Core.Bool.{Bool, true, false, _&&_, _||_, not}
+use mathlib.Core.Path.{_≡_, refl}
+use mathlib.Core.Bool.{Bool, true, false, _&&_, _||_}
 use mathlib.Core.List.{List}
 use mathlib.Core.Logic.{_⊎_, inl, inr, ⊎-elim}
-use Prim.Native.Nat.{ℕ, zero, suc, _-_, _≤_, _<_, zero-le}
-use native.Mathlib.Nat.{eq-or-lt-of-le, le-of-suc-le-suc}
+use Prim.Native.Nat.{ℕ, zero, suc, _-_, _<_, zero-le}
 use native.Mathlib.Omega.{arith}
 use lib.ListN.{length}
 use lib.Dec.{ltb, eqb}
-use borrow.Author.Tests.{ltb-true, ltb-false, eqb-true, eqb-false, not-true, ne-eqb}
+use borrow.Author.Tests.{ltb-true, eqb-true, ne-eqb}
 use Rattle.table.specs.declared.layout.Column.{Column}
 use Rattle.table.specs.declared.layout.Layout.{Layout}
-use Rattle.names.specs.Names.{before}
-use Rattle.names.specs.Wraps.{goodWrap}
 use Rattle.table.specs.Kinds.{ownsEdges, ownsFields, ownsMembers, ownsValues, takesArguments, takesDefault}
-use Rattle.table.specs.Layout.{none, layoutOf, Laid, wordAt, startAt, empty, nameBytes, nameCount, typeCount, typeKind, edgesEnds, fieldsEnds, membersEnds, valuesEnds, argumentsEnds, typeNames, typeKinds, typeFlags, edgeNames, fieldNames, fieldTypes, fieldWraps, fieldDefaults, argumentNames, argumentTypes, argumentWraps, argumentDefaults, memberNames, valueNames, root}
-use Rattle.wellformed.specs.WellFormed.{hasHeader, inLimits, rightLength, nameRises, namesGood, namesRise, namesRight, below, wrapsGood, endsGood, rootGood, rootsGood, typesGood, allEndsGood, fieldsGood, argumentsGood, listsGood, sectionsFit, fieldFits, fieldsFit, wordsGood, sectionsAllFit, fieldsAllFit, rowsGood, fresh, distinct, runDistinct, rowsDistinct, rowsAllDistinct, namesDistinct, unless, refusalLaid, refusal}
-use Rattle.wellformed.specs.Sound.{Sound, SoundNames, SoundWords, SoundRuns, SoundOwner, SoundApart, Runs, Apart}
-use Rattle.names.proofs.BoolLaws.{decide, true-false, and-left, and-right, and3, and4, and5, or-cases, or-left}
+use Rattle.table.specs.Layout.{none, layoutOf, wordAt, startAt, empty, nameCount, typeCount, typeKind, edgesEnds, fieldsEnds, membersEnds, valuesEnds, argumentsEnds, typeNames, typeKinds, typeFlags, edgeNames, fieldNames, fieldTypes, fieldWraps, fieldDefaults, argumentNames, argumentTypes, argumentWraps, argumentDefaults, memberNames, valueNames, root}
+use Rattle.wellformed.specs.WellFormed.{hasHeader, inLimits, rightLength, namesGood, namesRise, namesRight, rootGood, rootsGood, allEndsGood, sectionsFit, fieldFits, fieldsFit, wordsGood, sectionsAllFit, fieldsAllFit, rowsGood, distinct, runDistinct, rowsDistinct, rowsAllDistinct, namesDistinct, unless, refusalLaid, refusal}
+use Rattle.wellformed.specs.Sound.{Sound, SoundWords, SoundRuns, SoundOwner, SoundApart}
+use Rattle.names.proofs.BoolLaws.{and-left, and-right, and3, and4, or-cases, or-left}
 use Rattle.names.proofs.CountLaws.{every-at}
-use Rattle.names.proofs.NameLaws.{before-irrefl, before-trans}
-use Rattle.wellformed.proofs.TextLaws.{name-in, name-is}
+use Rattle.name_section.proofs.NameSectionLaws.{sound-names}
 use Rattle.wellformed.proofs.LimitLaws.{limits, laid}
-use Rattle.wellformed.proofs.EndLaws.{ends-rise, ends-inside, ends-last, edges-ends, fields-ends, members-ends, values-ends, arguments-ends}
-
--- Names.
-
-module _ (text w : List ℕ) (g : namesGood text w (layoutOf w) ≡ true) (r : namesRise text w (layoutOf w) ≡ true) where
-  next-rises : (n : ℕ) → suc n < nameCount w → before (nameBytes text w n) (nameBytes text w (suc n)) ≡ true
-  unfolding nameRises
-  next-rises n h =
-      let e : suc n - 1 ≡ n = omega arith in
-      let z : suc n ≡ 0 → ⊥ = λ q. omega arith in
-      let a = every-at (nameRises text w (layoutOf w)) 0 (nameCount w) (suc n) r zero-le h in
-      rw e at (rw (ne-eqb (suc n) 0 z) at a)
-
-  names-rise : (n m : ℕ) → n < nameCount w → m < n → before (nameBytes text w m) (nameBytes text w n) ≡ true
-  names-rise zero m h k = absurd (omega arith)
-  names-rise (suc n) m h k =
-      ⊎-elim (λ q. rw q (next-rises n h))
-      (λ q. let l : n < nameCount w = omega arith in before-trans (nameBytes text w m) (nameBytes text w n) (nameBytes text w (suc n)) (names-rise n m l q) (next-rises n h))
-      (eq-or-lt-of-le (le-of-suc-le-suc k))
-
-  never-same : (n m : ℕ) → n < nameCount w → m < n → nameBytes text w m ≡ nameBytes text w n → ⊥
-  never-same n m h k e = true-false (names-rise n m h k) (rw e (before-irrefl (nameBytes text w n)))
-
-  names-apart : (n m : ℕ) → n < nameCount w → m < nameCount w → nameBytes text w n ≡ nameBytes text w m → n ≡ m
-  names-apart n m h k e =
-      ⊎-elim (λ a. absurd (never-same m n k (ltb-true n m a) e))
-      (λ a. ⊎-elim (λ b. absurd (never-same n m h (ltb-true m n b) (sym e))) (λ b. let p = ltb-false n m a in let q = ltb-false m n b in omega arith) (decide (ltb m n)))
-      (decide (ltb n m))
-
-  sound-names : SoundNames text w
-  sound-names =
-      record {
-        inside = name-in text w (layoutOf w) g;
-        good = name-is text w (layoutOf w) g;
-        rise = names-rise;
-        apart = names-apart;
-      }
+use Rattle.wellformed.proofs.WordLaws.{type-columns, field-columns, argument-columns, list-columns, roots-good}
+use Rattle.columns.proofs.ColumnLaws.{below-at, wraps-at, runs, apart}
+use Rattle.wellformed.proofs.EndLaws.{edges-ends, fields-ends, members-ends, values-ends, arguments-ends}
 
 -- Words.
-
-module _ (w : List ℕ) (c : Column) where
-  below-at : (n : ℕ) → below w c n ≡ true → (i : ℕ) → i < c .rows → wordAt w c i < n
-  unfolding below
-  below-at n e i h = ltb-true _ _ (every-at (λ j. ltb (wordAt w c j) n) 0 (c .rows) i e zero-le h)
-
-  wraps-at : wrapsGood w c ≡ true → (i : ℕ) → i < c .rows → goodWrap (wordAt w c i) ≡ true
-  unfolding wrapsGood
-  wraps-at e i h = every-at (λ j. goodWrap (wordAt w c j)) 0 (c .rows) i e zero-le h
-
-  runs : (n : ℕ) → endsGood w c n ≡ true → Runs w c n
-  runs n e = record { rise = ends-rise w c n e; inside = ends-inside w c n e; last = ends-last w c n e }
-
-  clash : (from i j : ℕ) → fresh w c from i ≡ true → from ≤ j → j < i → wordAt w c i ≡ wordAt w c j → ⊥
-  unfolding fresh
-  clash from i j e h k q =
-      eqb-false (wordAt w c i) (wordAt w c j)
-      (not-true _ (every-at (λ m. not (eqb (wordAt w c i) (wordAt w c m))) from i j e h k)) q
-
-  apart : (from to : ℕ) → distinct w c from to ≡ true → Apart w c from to
-  unfolding distinct
-  apart from to e i j hi ki hj kj q =
-      ⊎-elim (λ a. absurd (clash from j i (every-at (fresh w c from) from to j e hj kj) hi (ltb-true i j a) (sym q)))
-      (λ a. ⊎-elim (λ b. absurd (clash from i j (every-at (fresh w c from) from to i e hi ki) hj (ltb-true j i b) q)) (λ b. let m = ltb-false i j a in let n = ltb-false j i b in omega arith) (decide (ltb j i)))
-      (decide (ltb i j))
 
 module _ (w : List ℕ) where
   abbrev l : Layout
@@ -105,13 +42,11 @@ module _ (w : List ℕ) where
   roots-are e (suc (suc (suc n))) h = absurd (omega arith)
 
   sound-words : wordsGood w l ≡ true → SoundWords w
-  unfolding wordsGood typesGood fieldsGood argumentsGood listsGood
   sound-words e =
-      let p = and5 (typesGood w l) (fieldsGood w l) (argumentsGood w l) (listsGood w l) (rootsGood w l) e in
-      let t = and3 (below w (typeNames l) (l .names)) (below w (typeKinds l) 6) (below w (typeFlags l) 2) (p .0) in
-      let f = and4 (below w (fieldNames l) (l .names)) (below w (fieldTypes l) (l .names)) (wrapsGood w (fieldWraps l)) (below w (fieldDefaults l) 2) (p .1) in
-      let a = and4 (below w (argumentNames l) (l .names)) (below w (argumentTypes l) (l .names)) (wrapsGood w (argumentWraps l)) (below w (argumentDefaults l) 2) (p .2) in
-      let s = and3 (below w (edgeNames l) (l .names)) (below w (memberNames l) (l .names)) (below w (valueNames l) (l .names)) (p .3) in
+      let t = type-columns w l e in
+      let f = field-columns w l e in
+      let a = argument-columns w l e in
+      let s = list-columns w l e in
       record {
         type-name = below-at w (typeNames l) (l .names) (t .0);
         type-kind = below-at w (typeKinds l) 6 (t .1);
@@ -127,7 +62,7 @@ module _ (w : List ℕ) where
         edge-name = below-at w (edgeNames l) (l .names) (s .0);
         member-name = below-at w (memberNames l) (l .names) (s .1);
         value-name = below-at w (valueNames l) (l .names) (s .2);
-        root-name = roots-are (p .4);
+        root-name = roots-are (roots-good w l e);
       }
 
   sound-runs : allEndsGood w l ≡ true → SoundRuns w

@@ -1,57 +1,29 @@
 -- A sound table passes every test, so that `Sound` says no less than refusal 0.
 use mathlib.Core.Path.{_≡_, refl, _∙_}
-use mathlib.Core.Bool.{Bool, true, false, _||_, not}
+use mathlib.Core.Bool.{Bool, true, false, _||_}
 use mathlib.Core.List.{List}
 use mathlib.Core.Logic.{_⊎_, ⊎-elim}
-use Prim.Native.Nat.{ℕ, zero, suc, _-_, _≤_, _<_}
+use Prim.Native.Nat.{ℕ, _-_, _≤_, _<_}
 use native.Mathlib.Omega.{arith}
 use lib.ListN.{length}
-use lib.Dec.{leb, ltb, eqb}
-use borrow.Author.Tests.{le-leb, lt-ltb, eq-eqb, ne-eqb, eqb-false}
+use lib.Dec.{ltb, eqb}
+use borrow.Author.Tests.{le-leb, lt-ltb, eq-eqb, eqb-false}
 use Rattle.table.specs.declared.layout.Column.{Column}
 use Rattle.table.specs.declared.layout.Layout.{Layout}
-use Rattle.names.specs.Wraps.{goodWrap}
 use Rattle.table.specs.Kinds.{ownsEdges, ownsFields, ownsMembers, ownsValues, takesArguments, takesDefault}
 use Rattle.table.specs.Layout.{none, layoutOf, wordAt, startAt, empty, nameCount, typeCount, fieldCount, typeKind, edgesEnds, fieldsEnds, membersEnds, valuesEnds, argumentsEnds, typeNames, typeKinds, typeFlags, edgeNames, fieldNames, fieldTypes, fieldWraps, fieldDefaults, argumentNames, argumentTypes, argumentWraps, argumentDefaults, memberNames, valueNames, root}
-use Rattle.wellformed.specs.WellFormed.{hasHeader, inLimits, rightLength, nameGood, nameRises, namesRight, below, wrapsGood, endsGood, rootGood, rootsGood, typesGood, allEndsGood, fieldsGood, argumentsGood, listsGood, sectionsFit, fieldFits, fieldsFit, wordsGood, sectionsAllFit, fieldsAllFit, rowsGood, fresh, distinct, runDistinct, rowsDistinct, rowsAllDistinct, namesDistinct, refusalLaid, refusal}
-use Rattle.wellformed.specs.Sound.{Sound, Runs, Apart}
+use Rattle.wellformed.specs.WellFormed.{hasHeader, inLimits, rightLength, namesRight, rootGood, rootsGood, typesGood, allEndsGood, fieldsGood, argumentsGood, listsGood, sectionsFit, fieldFits, fieldsFit, wordsGood, sectionsAllFit, fieldsAllFit, rowsGood, runDistinct, rowsDistinct, rowsAllDistinct, namesDistinct, refusalLaid, refusal}
+use Rattle.wellformed.specs.Sound.{Sound}
 use Rattle.names.proofs.BoolLaws.{decide, and-true, or-true}
 use Rattle.names.proofs.CountLaws.{every-intro}
 use Rattle.table.proofs.LayoutLaws.{roots-end}
+use Rattle.name_section.proofs.NameSectionLaws.{are-right}
+use Rattle.columns.proofs.ColumnLaws.{is-below, are-wraps, are-ends, are-distinct}
 
 or-first : (a b : Bool) → a ≡ true → a || b ≡ true
 or-first a b e = rw e
 
--- Columns.
-
 module _ (w : List ℕ) (c : Column) where
-  is-below : (n : ℕ) → ((i : ℕ) → i < c .rows → wordAt w c i < n) → below w c n ≡ true
-  unfolding below
-  is-below n h = every-intro (λ i. ltb (wordAt w c i) n) 0 (c .rows) (λ i a b. lt-ltb (wordAt w c i) n (h i b))
-
-  are-wraps : ((i : ℕ) → i < c .rows → goodWrap (wordAt w c i) ≡ true) → wrapsGood w c ≡ true
-  unfolding wrapsGood
-  are-wraps h = every-intro (λ i. goodWrap (wordAt w c i)) 0 (c .rows) (λ i a b. h i b)
-
-  are-ends : (n : ℕ) → Runs w c n → endsGood w c n ≡ true
-  unfolding endsGood
-  are-ends n r =
-      and-true (every-intro (λ i. leb (startAt w c i) (wordAt w c i)) 0 (c .rows) (λ i a b. le-leb (startAt w c i) (wordAt w c i) (r .rise i b)))
-      (eq-eqb (startAt w c (c .rows)) n (r .last))
-
-  is-fresh : (from to i : ℕ) → Apart w c from to → from ≤ i → i < to → fresh w c from i ≡ true
-  unfolding fresh
-  is-fresh from to i h a b =
-      every-intro (λ j. not (eqb (wordAt w c i) (wordAt w c j))) from i
-      (λ j p q. simp (ne-eqb (wordAt w c i) (wordAt w c j) (λ (e : wordAt w c i ≡ wordAt w c j).
-      let k : j < to = omega arith in
-      let m : i ≡ j = h i j a b p k e in
-      omega arith)))
-
-  are-distinct : (from to : ℕ) → Apart w c from to → distinct w c from to ≡ true
-  unfolding distinct
-  are-distinct from to h = every-intro (fresh w c from) from to (λ i a b. is-fresh from to i h a b)
-
   -- a run that is empty, or has an owner
   owned : (i : ℕ) (b : Bool) → startAt w c i ≤ wordAt w c i → (startAt w c i < wordAt w c i → b ≡ true) → b || empty w c i ≡ true
   owned i b r h =
@@ -79,20 +51,8 @@ module _ (text w : List ℕ) (s : Sound text w) where
   unfolding rightLength
   right = eq-eqb _ _ (s .laid .whole ∙ roots-end w)
 
-  rises : (i : ℕ) → i < nameCount w → nameRises text w l i ≡ true
-  unfolding nameRises
-  rises zero h = refl
-  rises (suc i) h =
-      let e : suc i - 1 ≡ i = omega arith in
-      let k : i < suc i = omega arith in
-      or-true (eqb (suc i) 0) _ (rw e (s .names .rise (suc i) i h k))
-
   names : namesRight text w l ≡ true
-  unfolding namesRight nameGood
-  names =
-      and-true
-      (every-intro (nameGood text w l) 0 (nameCount w) (λ i a b. and-true (le-leb _ _ (s .names .inside i b)) (s .names .good i b)))
-      (every-intro (nameRises text w l) 0 (nameCount w) (λ i a b. rises i b))
+  names = are-right text w (s .names)
 
   root-good : (op : ℕ) → op < 3 → rootGood w l op ≡ true
   unfolding rootGood

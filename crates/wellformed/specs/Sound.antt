@@ -4,26 +4,14 @@ use mathlib.Core.Path.{_≡_}
 use mathlib.Core.Bool.{true}
 use mathlib.Core.List.{List}
 use mathlib.Core.Logic.{_⊎_}
-use Prim.Native.Nat.{ℕ, _+_, _≤_, _<_}
+use Prim.Native.Nat.{ℕ, _≤_, _<_}
 use lib.ListN.{length}
-use Rattle.table.specs.declared.layout.Column.{Column}
-use Rattle.names.specs.Names.{isName, before}
 use Rattle.names.specs.Wraps.{goodWrap}
 use Rattle.table.specs.Kinds.{kinds, ownsEdges, ownsFields, ownsMembers, ownsValues, takesArguments, takesDefault}
-use Rattle.table.specs.Layout.{rootWords, mostText, none, layoutOf, Laid, wordAt, startAt, nameCount, typeCount, edgeCount, fieldCount, argumentCount, memberCount, valueCount, nameStart, nameLength, nameBytes, typeName, typeKind, typeFlag, edgesStart, edgesEnd, fieldsStart, fieldsEnd, membersStart, membersEnd, valuesStart, valuesEnd, edgeName, fieldName, fieldType, fieldWrap, argumentsStart, argumentsEnd, fieldDefault, argumentName, argumentType, argumentWrap, argumentDefault, memberName, valueName, root, edgesEnds, fieldsEnds, membersEnds, valuesEnds, argumentsEnds, typeNames, edgeNames, fieldNames, memberNames, valueNames}
-
--- names lie in the text, are Spec Names, rise, and so differ in their bytes
-pub record SoundNames (text w : List ℕ) : Type 0 where
-  pub inside : (n : ℕ) → n < nameCount w → nameStart w n + nameLength w n ≤ length text
-  pub good : (n : ℕ) → n < nameCount w → isName (nameBytes text w n) ≡ true
-  pub rise : (n m : ℕ) → n < nameCount w → m < n → before (nameBytes text w m) (nameBytes text w n) ≡ true
-  pub apart : (n m : ℕ) → n < nameCount w → m < nameCount w → nameBytes text w n ≡ nameBytes text w m → n ≡ m
-
--- ends cut a section of n rows: each run lies in it, and the last ends where it does
-pub record Runs (w : List ℕ) (c : Column) (n : ℕ) : Type 0 where
-  pub rise : (i : ℕ) → i < c .rows → startAt w c i ≤ wordAt w c i
-  pub inside : (i : ℕ) → i < c .rows → wordAt w c i ≤ n
-  pub last : startAt w c (c .rows) ≡ n
+use Rattle.table.specs.Layout.{rootWords, mostText, none, layoutOf, Laid, nameCount, typeCount, edgeCount, fieldCount, argumentCount, memberCount, valueCount, typeName, typeKind, typeFlag, edgesStart, edgesEnd, fieldsStart, fieldsEnd, membersStart, membersEnd, valuesStart, valuesEnd, edgeName, fieldName, fieldType, fieldWrap, argumentsStart, argumentsEnd, fieldDefault, argumentName, argumentType, argumentWrap, argumentDefault, memberName, valueName, root, edgesEnds, fieldsEnds, membersEnds, valuesEnds, argumentsEnds, typeNames, edgeNames, fieldNames, memberNames, valueNames}
+-- what names say (SoundNames), ends (Runs) and names with no repeat (Apart) is handed on from where the tests stand
+pub use Rattle.name_section.specs.NameSection.{SoundNames}
+pub use Rattle.columns.specs.Columns.{Runs, Apart}
 
 -- every word is in its range
 pub record SoundWords (w : List ℕ) : Type 0 where
@@ -59,10 +47,6 @@ pub record SoundOwner (w : List ℕ) (t : ℕ) : Type 0 where
   pub values : valuesStart w t < valuesEnd w t → ownsValues (typeKind w t) ≡ true
   pub arguments : (f : ℕ) → fieldsStart w t ≤ f → f < fieldsEnd w t → argumentsStart w f < argumentsEnd w f → takesArguments (typeKind w t) ≡ true
   pub defaults : (f : ℕ) → fieldsStart w t ≤ f → f < fieldsEnd w t → fieldDefault w f ≡ 1 → takesDefault (typeKind w t) ≡ true
-
--- no word stands twice in the rows of a column from `from` up to `to`
-abbrev pub Apart : List ℕ → Column → ℕ → ℕ → Type 0
-Apart w c from to = (i j : ℕ) → from ≤ i → i < to → from ≤ j → j < to → wordAt w c i ≡ wordAt w c j → i ≡ j
 
 -- no repeats: type names, and within type t the names of each list
 pub record SoundApart (w : List ℕ) : Type 0 where

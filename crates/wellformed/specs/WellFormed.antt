@@ -1,18 +1,20 @@
 -- Document 01, "Refusal numbers": the tests of the table's refusals, in their order and words. Each reads the words w by their
 -- layout l.
-use mathlib.Core.Bool.{Bool, _&&_, _||_, not, true, false}
+use mathlib.Core.Bool.{Bool, _&&_, _||_, true, false}
 use mathlib.Core.List.{List}
-use Prim.Native.Nat.{ℕ, _+_, _-_}
+use Prim.Native.Nat.{ℕ}
 use lib.ListN.{length}
 use lib.Dec.{leb, ltb, eqb}
 use Rattle.table.specs.declared.layout.Layout.{Layout}
 use Rattle.table.specs.declared.layout.Column.{Column}
-use Rattle.names.specs.Count.{every, part}
-use Rattle.names.specs.Names.{isName, before}
-use Rattle.names.specs.Wraps.{goodWrap}
+use Rattle.names.specs.Count.{every}
 use Rattle.table.specs.Kinds.{kinds, ownsEdges, ownsFields, ownsMembers, ownsValues, takesArguments, takesDefault}
 use Rattle.table.specs.Refusals.{tooFewWords, aboveLimit, wrongLength, badNames, badWord, twice}
-use Rattle.table.specs.Layout.{headerWords, mostNames, mostTypes, mostEdges, mostFields, mostArguments, mostMembers, mostValues, mostText, tableLength, none, layoutOf, wordAt, startAt, empty, nameStarts, nameLengths, typeNames, typeKinds, typeFlags, edgesEnds, fieldsEnds, membersEnds, valuesEnds, edgeNames, fieldNames, fieldTypes, fieldWraps, argumentsEnds, fieldDefaults, argumentNames, argumentTypes, argumentWraps, argumentDefaults, memberNames, valueNames, roots}
+use Rattle.table.specs.Layout.{headerWords, mostNames, mostTypes, mostEdges, mostFields, mostArguments, mostMembers, mostValues, mostText, tableLength, none, layoutOf, wordAt, startAt, empty, typeNames, typeKinds, typeFlags, edgesEnds, fieldsEnds, membersEnds, valuesEnds, edgeNames, fieldNames, fieldTypes, fieldWraps, argumentsEnds, fieldDefaults, argumentNames, argumentTypes, argumentWraps, argumentDefaults, memberNames, valueNames, roots}
+-- the tests of the name section (4), and of columns (5 and 6), are handed on from where they stand
+pub use Rattle.name_section.specs.NameSection.{nameEnd, bytesOf, namesGood, namesRise}
+unfoldable pub use Rattle.name_section.specs.NameSection.{nameGood, nameRises, namesRight}
+unfoldable pub use Rattle.columns.specs.Columns.{below, wrapsGood, endsGood, fresh, distinct}
 
 -- 1: the header is there
 abbrev pub hasHeader : List ℕ → Bool
@@ -33,46 +35,6 @@ inLimits text l =
 -- 3: the length is 10 + 2N + 7T + I + 5F + 4A + M + V
 unfoldable pub rightLength : List ℕ → Layout → Bool
 rightLength w l = eqb (length w) (tableLength l)
-
--- the end of name i in the text
-abbrev pub nameEnd : List ℕ → Layout → ℕ → ℕ
-nameEnd w l i = wordAt w (nameStarts l) i + wordAt w (nameLengths l) i
-
--- the bytes of name i
-abbrev pub bytesOf : List ℕ → List ℕ → Layout → ℕ → List ℕ
-bytesOf text w l i = part text (wordAt w (nameStarts l) i) (nameEnd w l i)
-
--- name i lies in the text and is a Spec Name, so it isn't empty
-unfoldable pub nameGood : List ℕ → List ℕ → Layout → ℕ → Bool
-nameGood text w l i = leb (nameEnd w l i) (length text) && isName (bytesOf text w l i)
-
--- name i comes after the name before it, if there is one
-unfoldable pub nameRises : List ℕ → List ℕ → Layout → ℕ → Bool
-nameRises text w l i = eqb i 0 || before (bytesOf text w l (i - 1)) (bytesOf text w l i)
-
--- every name is good
-abbrev pub namesGood : List ℕ → List ℕ → Layout → Bool
-namesGood text w l = every (nameGood text w l) 0 (l .names)
-
--- every name rises
-abbrev pub namesRise : List ℕ → List ℕ → Layout → Bool
-namesRise text w l = every (nameRises text w l) 0 (l .names)
-
--- 4: names lie in the text, are Spec Names, and strictly rise
-unfoldable pub namesRight : List ℕ → List ℕ → Layout → Bool
-namesRight text w l = namesGood text w l && namesRise text w l
-
--- every word of a column is below the limit
-unfoldable pub below : List ℕ → Column → ℕ → Bool
-below w c limit = every (λ i. ltb (wordAt w c i) limit) 0 (c .rows)
-
--- every word of a column is a good wrap
-unfoldable pub wrapsGood : List ℕ → Column → Bool
-wrapsGood w c = every (λ i. goodWrap (wordAt w c i)) 0 (c .rows)
-
--- ends don't fall, and the last is the count of the section that they cut; with no rows, the count is 0. So none lies beyond it
-unfoldable pub endsGood : List ℕ → Column → ℕ → Bool
-endsGood w c count = every (λ i. leb (startAt w c i) (wordAt w c i)) 0 (c .rows) && eqb (startAt w c (c .rows)) count
 
 -- the root of an operation is a name or NONE
 unfoldable pub rootGood : List ℕ → Layout → ℕ → Bool
@@ -146,14 +108,6 @@ wordsGood w l = typesGood w l && fieldsGood w l && argumentsGood w l && listsGoo
 -- 5: words in their ranges, ends that rise to their counts, and rows on the kinds that may own them
 unfoldable pub rowsGood : List ℕ → Layout → Bool
 rowsGood w l = allEndsGood w l && (wordsGood w l && sectionsAllFit w l && fieldsAllFit w l)
-
--- the word of row i of a column stands in no row from `from` up to i
-unfoldable pub fresh : List ℕ → Column → ℕ → ℕ → Bool
-fresh w c from i = every (λ j. not (eqb (wordAt w c i) (wordAt w c j))) from i
-
--- no word stands twice in the rows of a column from `from` up to `to`
-unfoldable pub distinct : List ℕ → Column → ℕ → ℕ → Bool
-distinct w c from to = every (fresh w c from) from to
 
 -- no name of type t stands twice; `ends` cuts the rows of `names` by type
 unfoldable pub runDistinct : List ℕ → Column → Column → ℕ → Bool

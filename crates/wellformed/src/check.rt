@@ -1,11 +1,13 @@
 // The table's refusals, in their order.
 ghost use mathlib.Core.Path.{_≡_};
-ghost use Rattle.table.specs.Layout.{layoutOf, InRange, Laid};
+ghost use Prim.Native.Nat.{_≤_};
+ghost use lib.ListN.{length};
+ghost use Rattle.table.specs.Layout.{mostText, layoutOf, InRange, Laid};
 ghost use Rattle.wellformed.specs.WellFormed.{inLimits, rightLength, refusalLaid, refusal};
 ghost use Rattle.wellformed.specs.Answers.{verdictNumber, Proper};
-use crate::refusal4::names_right;
 use crate::refusal5::rows_good;
 use crate::refusal6::names_distinct;
+use name_section::names_right;
 use table::layout::Layout;
 use table::layout::layout_of;
 use table::refusal::Refusal;
@@ -39,6 +41,7 @@ fn right_length(words: &[u32], l: Layout) -> bool
 // The refusals of names and rows, of a table that keeps its limits and has the right length.
 fn check_laid(text: &[u8], words: &[u32], l: Layout) -> Verdict
     requires { ⌜ Laid (now words) l ⌝ }
+    requires { ⌜ length (now text) ≤ mostText ⌝ }
     ensures { λ r. ⌜ verdictNumber r ≡ refusalLaid (now (text .entry)) (now (words .entry)) l ⌝ }
     ensures { λ r. ⌜ Proper r ⌝ }
 {

@@ -1,22 +1,23 @@
 -- `lowest`: the rules are asked in order, each a branch. Behind the branch of a rule that rule is kept.
 use borrow.Author.Needs.{needs}
+use native.Mathlib.Omega.{arith}
 use mathlib.Core.Path.{_≡_, refl}
 use mathlib.Core.Bool.{true}
 use Rattle.names.proofs.BoolLaws.{passes, fails}
 use Rattle.table.specs.Layout.{typeCount}
-use Rattle.chains.specs.Fields.{isInputObject, chainGraph}
+use Rattle.links.specs.Fields.{isInputObject, chainGraph}
 use Rattle.evidence.specs.Rules.{rule1, rule2, rule3, rule4, rule5, rule6, rule7, lowest}
 use Rattle.evidence.proofs.ChainLaws.{chained}
 use Rattle.judge.proofs.lowest.Statement.{statement}
 use Rattle.judge.proofs.lowest.Tie as tie
 
 -- the first rule's test, by the table's own count of types
-test1 : (c : tie.After-rule1) → let e = c .before .before .before in c .rule1 .result ≡ rule1 (e .args .ev .now) (e .args .t .0) (typeCount (e .args .words .now))
-test1 c = rw (chained (c .before .before .before .pre .0) .types) at (c .rule1 .ensures)
+test1 : (c : tie.After-rule1) → let e = c .before .before .before .before in c .rule1 .result ≡ rule1 (e .args .ev .now) (e .args .t .0) (typeCount (e .args .words .now))
+test1 c = rw (chained (c .before .before .before .before .pre .0) .types) at (c .rule1 .ensures)
 
 -- the function's entry, seen from behind each rule
 abbrev entry1 : tie.Else1 → tie.Start
-entry1 c = c .before .before .before .before
+entry1 c = c .before .before .before .before .before
 
 abbrev entry2 : tie.Else2 → tie.Start
 entry2 c = entry1 (c .before .before)
@@ -136,10 +137,10 @@ lowest-spec =
     returns-3
     (λ c κs. search needs)  -- rule4-requires
     returns-4
-    (λ c κs. search needs)  -- rule5-requires
+    (λ c κs. let d4 : tie.Else4 = c in let e = entry4 d4 in (e .pre .1 .0, omega (arith, e .pre .1 .1, chained (e .pre .0) .types)))  -- rule5-requires
     returns-5
     (λ c κs. search needs)  -- rule6-requires
     returns-6
-    (λ c κs. search needs)  -- rule7-requires
+    (λ c κs. let d6 : tie.Else6 = c in let e = entry6 d6 in (e .pre .1 .0, omega (arith, e .pre .1 .1, chained (e .pre .0) .types)))  -- rule7-requires
     returns-7
     returns-8)

@@ -6,7 +6,6 @@ use Rattle.wellformed.specs.Sound.{Sound}
 use Rattle.wellformed.proofs.AnswerLaws.{verdict-sound}
 use Rattle.rows.specs.Readable.{SoundRows}
 use Rattle.rows.proofs.ReadableLaws.{sound-rows}
-use Rattle.order.proofs.OrderLaws.{sound-apart}
 use Rattle.evidence.proofs.ChainLaws.{chained}
 use Rattle.marks.proofs.run.Statement.{statement}
 use Rattle.marks.proofs.run.Tie as tie
@@ -33,7 +32,7 @@ make-evidence-requires c κs =
     let told = laid .before in
     let r = rows laid in
     let e = chained r .types in
-    (r, (record { work-room = omega arith; out-room = omega arith }, sound-apart (sound told)))
+    (r, record { work-room = omega arith; out-room = omega arith })
 
 count-marked-requires : tie.Need-count-marked-requires
 count-marked-requires c κs =

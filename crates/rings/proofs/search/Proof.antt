@@ -1,87 +1,100 @@
--- `search`: a table that the check finds well-formed is one that a first cycle may be asked of, with work words that were cleared.
+-- `search`: a table that the check finds well-formed is one that a first cycle may be asked of.
 use borrow.Author.Needs.{needs}
-use mathlib.Core.Path.{_≡_, sym, subst}
-use mathlib.Core.List.{List, [], _++_, append-nil}
-use Prim.Native.Nat.{ℕ}
+use mathlib.Core.Path.{sym, subst}
 use native.Mathlib.Omega.{arith}
-use lib.ListN.{take, replicate, length-take, length-replicate}
-use lib.Seq.{take-at, length-take-le}
-use Rattle.wellformed.specs.Sound.{Sound}
+use lib.ListN.{length-take}
 use Rattle.wellformed.proofs.AnswerLaws.{verdict-sound}
 use Rattle.rows.specs.Readable.{SoundRows}
-use Rattle.rows.proofs.PartLaws.{type-count}
 use Rattle.rows.proofs.ReadableLaws.{sound-rows}
-use Rattle.chains.proofs.HelpLaws.{helped-none}
-use Rattle.chains.proofs.SettleLaws.{cleared-settled}
 use Rattle.rings.proofs.search.Statement.{statement}
 use Rattle.rings.proofs.search.Tie as tie
 
-abbrev entry : tie.After-enum-told → tie.Start
-entry c = c .before .before .before .before .before .before .before .before .before
+write-all-requires : tie.Need-write-all-requires
+write-all-requires c κs = search needs
 
--- the verdict makes the table sound, and the layout its own
-sound : (c : tie.After-enum-told) → Sound (entry c .args .text .now) (entry c .args .words .now)
-sound c = verdict-sound _ _ _ (c .before .before .check-table .ensures .0) (c .enum-told .given .1)
+check-table-requires : tie.Need-check-table-requires
+check-table-requires c κs = search needs
 
-rows : (c : tie.After-layout-of) → SoundRows (entry (c .before) .args .words .now) (c .layout-of .result)
-rows c = subst (SoundRows _) (sym (c .layout-of .ensures .0)) (sound-rows (sound (c .before)))
+enum-told : tie.Need-enum-told
+enum-told c = search needs
+
+enum-told-2 : tie.Need-enum-told-2
+enum-told-2 c = search needs
+
+slice-aggregate-write-all : tie.Need-slice-aggregate-write-all
+slice-aggregate-write-all c = search needs
+
+write-all-requires-2 : tie.Need-write-all-requires-2
+write-all-requires-2 c κs = search needs
+
+returns : tie.Need-returns
+returns c = search needs
 
 layout-of-requires : tie.Need-layout-of-requires
-layout-of-requires c κs = let s = sound c .laid in omega arith
+layout-of-requires c κs = let s = verdict-sound _ _ _ (c .before .before .check-table .ensures .0) (c .enum-told .given .1) .laid in omega arith
 
-order-at-requires : tie.Need-order-at-requires
-order-at-requires c κs = rows c .laid .types-most
+size-requires : tie.Need-size-requires
+size-requires c κs = subst (SoundRows _) (sym (c .layout-of .ensures .0)) (sound-rows (verdict-sound _ _ _ (c .before .before .before .check-table .ensures .0) (c .before .enum-told .given .1))) .laid .types-most
 
--- the words that are lent are those that were cleared
-zeros : (m : ℕ) (W rest : List ℕ) → W ≡ replicate m 0 ++ rest → take m W ≡ replicate m 0 ++ []
-zeros m W rest e = rw (e, take-at {A = ℕ} (replicate m 0) rest m (length-replicate m 0)) (sym (append-nil (replicate m 0)))
+wide-requires : tie.Need-wide-requires
+wide-requires c κs = search needs
 
-slice-aggregate-first-cycle : tie.Need-slice-aggregate-first-cycle
-slice-aggregate-first-cycle c = sym (length-take-le _ _ (search needs))
+slice-aggregate-write-all-2 : tie.Need-slice-aggregate-write-all-2
+slice-aggregate-write-all-2 c = search needs
 
-first-cycle-requires : tie.Need-first-cycle-requires
-first-cycle-requires c κs =
-    let b = c .before .before .before .before in
-    let a : tie.After-order-at = b .before .before .before .before .before .before in
-    let m : ℕ = a .order-at .result in
-    let r = rows (a .before) in
-    let z = zeros m _ _ (b .clear .ensures) in
-    (helped-none r _ (rw z (simp (append-nil, length-replicate) (a .order-at .ensures))), (search needs, rw z (cleared-settled _ m [] (omega (arith, a .order-at .ensures, type-count _ _ (r .laid))))))
+write-all-requires-3 : tie.Need-write-all-requires-3
+write-all-requires-3 c κs = search needs
+
+returns-2 : tie.Need-returns-2
+returns-2 c = search needs
+
+slice-aggregate-write-all-3 : tie.Need-slice-aggregate-write-all-3
+slice-aggregate-write-all-3 c = search needs
+
+write-all-requires-4 : tie.Need-write-all-requires-4
+write-all-requires-4 c κs = search needs
+
+returns-3 : tie.Need-returns-3
+returns-3 c = search needs
+
+find-requires : tie.Need-find-requires
+find-requires c κs =
+    let layout-of = c .before .before .before .before .before .before .before .layout-of in
+    let check-table = c .before .before .before .before .before .before .before .before .before .before .check-table in
+    let enum-told = c .before .before .before .before .before .before .before .before .enum-told in
+    let wide = c .before .before .before .before .before .wide in
+    let size = c .before .before .before .before .before .before .size in
+    (subst (SoundRows _) (sym (layout-of .ensures .0)) (sound-rows (verdict-sound _ _ _ (check-table .ensures .0) (enum-told .given .1))), (omega (arith, c .before .before .before .if1 .left, wide .ensures), omega (arith, c .before .before .if2 .left, size .ensures)))
+
+print-requires : tie.Need-print-requires
+print-requires c κs = search needs
+
+slice-reshare-prefix-in-order : tie.Need-slice-reshare-prefix-in-order
+slice-reshare-prefix-in-order c = search needs
 
 slice-aggregate-in-order : tie.Need-slice-aggregate-in-order
 slice-aggregate-in-order c = let h = c .before .if3 .taken in simp length-take (omega arith)
 
+in-order-requires : tie.Need-in-order-requires
+in-order-requires c κs = search needs
+
+print-requires-2 : tie.Need-print-requires-2
+print-requires-2 c κs = search needs
+
+slice-aggregate-write-all-4 : tie.Need-slice-aggregate-write-all-4
+slice-aggregate-write-all-4 c = search needs
+
+write-all-requires-5 : tie.Need-write-all-requires-5
+write-all-requires-5 c κs = search needs
+
+same-length : tie.Need-same-length
+same-length c = search needs
+
+same-length-2 : tie.Need-same-length-2
+same-length-2 c = search needs
+
+returns-4 : tie.Need-returns-4
+returns-4 c = search needs
+
 pub search-spec : {M : Type 1} → statement M
-search-spec =
-    tie.close
-    (tie.spec
-    (λ c κs. search needs)  -- write-all-requires
-    (λ c κs. search needs)  -- check-table-requires
-    (λ c. search needs)  -- enum-told
-    (λ c. search needs)  -- enum-told-2
-    (λ c. search needs)  -- slice-aggregate-write-all
-    (λ c κs. search needs)  -- write-all-requires-2
-    (λ c. search needs)  -- returns
-    layout-of-requires
-    order-at-requires
-    (λ c κs. search needs)  -- wide-requires
-    (λ c. search needs)  -- slice-aggregate-write-all-2
-    (λ c κs. search needs)  -- write-all-requires-3
-    (λ c. search needs)  -- returns-2
-    (λ c. search needs)  -- slice-aggregate-write-all-3
-    (λ c κs. search needs)  -- write-all-requires-4
-    (λ c. search needs)  -- returns-3
-    (λ c κs. search needs)  -- clear-requires
-    (λ c. search needs)  -- slice-relend-prefix-first-cycle
-    slice-aggregate-first-cycle
-    first-cycle-requires
-    (λ c κs. search needs)  -- print-requires
-    (λ c. search needs)  -- slice-reshare-prefix-in-order
-    slice-aggregate-in-order
-    (λ c κs. search needs)  -- in-order-requires
-    (λ c κs. search needs)  -- print-requires-2
-    (λ c. search needs)  -- slice-aggregate-write-all-4
-    (λ c κs. search needs)  -- write-all-requires-5
-    (λ c. search needs)  -- same-length
-    (λ c. search needs)  -- same-length-2
-    (λ c. search needs))  -- returns-4
+search-spec = tie.close (tie.spec write-all-requires check-table-requires enum-told enum-told-2 slice-aggregate-write-all write-all-requires-2 returns layout-of-requires size-requires wide-requires slice-aggregate-write-all-2 write-all-requires-3 returns-2 slice-aggregate-write-all-3 write-all-requires-4 returns-3 find-requires print-requires slice-reshare-prefix-in-order slice-aggregate-in-order in-order-requires print-requires-2 slice-aggregate-write-all-4 write-all-requires-5 same-length same-length-2 returns-4)

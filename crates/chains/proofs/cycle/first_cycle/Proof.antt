@@ -4,20 +4,14 @@ use borrow.Author.Needs.{needs}
 use mathlib.Core.Path.{_≡_, refl, _∙_}
 use native.Mathlib.Omega.{arith}
 use lib.ListN.{length, getD, length-set}
-use Rattle.table.specs.Layout.{typeCount}
-use Rattle.rows.proofs.PartLaws.{type-count}
-use Rattle.chains.proofs.HelpLaws.{helped-mark}
 use Rattle.chains.proofs.Shape.{shaped}
 use Rattle.chains.proofs.Top.{settled-answer, top-ready, top-most, top-same, top-answer}
 use Rattle.chains.proofs.cycle.first_cycle.Statement.{statement}
 use Rattle.chains.proofs.cycle.first_cycle.Tie as tie
 
-types : (e : tie.Start) → e .args .l .types ≡ typeCount (e .args .words .now)
-types e = type-count _ _ (e .pre .0 .indexed .rows .laid)
-
 -- at the test of the mark: the function's entry
 abbrev entered : tie.After-struct-known2 → tie.Start
-entered c = c .before .before .before .before .before .before
+entered c = c .before .before .before .before .before .before .before
 
 cast-row : tie.Need-cast-row
 cast-row c = search needs
@@ -31,7 +25,7 @@ slice-read-if1 c = search needs
 returns : tie.Need-returns
 returns c =
     let e = entered (c .before) in
-    (settled-answer _ _ _ (e .pre .1 .1) (omega (arith, types e, e .pre .1 .0)) (c .if1 .taken) _, (omega arith, refl))
+    (settled-answer _ _ _ (e .pre .1 .1) (e .pre .1 .0) (c .if1 .taken) _, (omega arith, refl))
 
 mul-work : tie.Need-mul-work
 mul-work c = search needs
@@ -42,7 +36,7 @@ slice-write-work c = search needs
 walk-type-requires : tie.Need-walk-type-requires
 walk-type-requires c κs =
     let e = entered (c .before .before .before) in
-    (helped-mark (e .pre .0) _ _ (omega (arith, e .pre .1 .0)), top-ready _ _ _ _ (types e) (e .pre .1 .0) (e .pre .1 .1) (c .before .before .if1 .left) _ (shaped _ _ (e .pre .0 .indexed .rows)))
+    (e .pre .0, top-ready _ _ _ _ refl (e .pre .1 .0) (e .pre .1 .1) (c .before .before .if1 .left) _ (shaped _ (e .pre .0 .rows)))
 
 -- after the walk: the function's entry, and what the walk returned and left
 abbrev entry : tie.After-walk-type → tie.Start
@@ -55,10 +49,10 @@ size : (c : tie.After-walk-type) → length (c .walk-type .last .1 .1 .1 .1 .1 .
 size c = c .walk-type .kept .1 .1 .1 .1 .1 .0 ∙ length-set (entry c .args .work .now) (entry c .args .t .0) 1
 
 forget-requires : tie.Need-forget-requires
-forget-requires c κs = let d : tie.After-walk-type = c .before .before .before .before .before in omega (arith, size d, entry d .pre .0 .room)
+forget-requires c κs = let d : tie.After-walk-type = c .before .before .before .before .before .before in omega (arith, size d, entry d .pre .1 .1 .marking .room, c .types-in .ensures)
 
 abbrev walked : tie.After-slice-known6 → tie.After-walk-type
-walked c = c .before .before .before .before .before .before .before .before
+walked c = c .before .before .before .before .before .before .before .before .before
 
 same-length : tie.Need-same-length
 same-length c = c .before .before .forget .kept .0 ∙ size (walked c)
@@ -70,10 +64,10 @@ returns-2 : tie.Need-returns-2
 returns-2 c =
     let d = walked c in
     let e = entry d in (
-      top-answer _ _ _ _ (types e) (e .pre .1 .0) (e .pre .1 .1) (fresh d) _ _ _ _ (d .walk-type .ensures),
+      top-answer _ _ _ _ refl (e .pre .1 .0) (e .pre .1 .1) (fresh d) _ _ _ _ (d .walk-type .ensures),
       (
-        top-most _ _ _ _ (types e) (e .pre .1 .0) (e .pre .1 .1) (fresh d) _ _ _ _ (d .walk-type .ensures),
-        top-same _ _ _ _ (types e) (e .pre .1 .0) (e .pre .1 .1) (fresh d) _ _ _ _ _ (d .walk-type .ensures) (c .before .before .forget .ensures),
+        top-most _ _ _ _ refl (e .pre .1 .0) (e .pre .1 .1) (fresh d) _ _ _ _ (d .walk-type .ensures),
+        top-same _ _ _ _ refl (e .pre .1 .0) (e .pre .1 .1) (fresh d) _ _ _ _ _ (d .walk-type .ensures) (rw (c .before .before .before .types-in .ensures) at (c .before .before .forget .ensures)),
       ),
     )
 
@@ -88,6 +82,7 @@ first-cycle-spec =
     mul-work
     slice-write-work
     walk-type-requires
+    (λ c κs. search needs)  -- types-in-requires
     forget-requires
     same-length
     same-length-2

@@ -1,82 +1,54 @@
--- `settle`: each turn may settle types, and nothing that was settled is lost.
+-- `settle`: each walk leaves the marks right, and those of the walks are taken away.
 use borrow.Author.Needs.{needs}
 use native.Mathlib.Omega.{arith}
-use mathlib.Core.Path.{_≡_, _∙_, sym}
+use mathlib.Core.Path.{_≡_, refl, sym, _∙_}
 use mathlib.Core.Logic.{⊎-elim}
-use Prim.Native.Nat.{_<_, _-_}
+use mathlib.Core.List.{List}
+use Prim.Native.Nat.{ℕ, _*_, _≤_, _-_}
+use lib.ListN.{length}
 use Rattle.table.specs.Layout.{typeCount}
-use Rattle.rows.proofs.PartLaws.{type-count}
-use Rattle.chains.specs.Fields.{chainGraph}
-use Rattle.chains.specs.Settle.{Settling}
-use Rattle.chains.proofs.HelpLaws.{helped-rest, helped-mark}
-use Rattle.chains.proofs.SettleLaws.{settling-none, settling-join, settling-enter, all-settled}
+use Rattle.links.specs.Chains.{Graph}
+use Rattle.links.specs.Fields.{chainGraph}
+use Rattle.chains.specs.Work.{workWords}
+use Rattle.chains.specs.Answer.{Settled}
+use Rattle.chains.specs.Settle.{Walking, Settling}
+use Rattle.chains.proofs.SettleLaws.{settling-none, settling-join, walking-on, all-settled}
 use Rattle.chains.proofs.settle.settle.Statement.{statement}
 use Rattle.chains.proofs.settle.settle.Tie as tie
 
 abbrev Inv-loop : tie.InvT-loop
-Inv-loop words l work₀ types t₀ work t = (types ≡ typeCount words) × Settling (chainGraph words) work₀ work
+Inv-loop words targets work₀ types t₀ work t = (types ≡ typeCount words) × (t ≤ typeCount words) × Settling (chainGraph words) work₀ work
 
 abbrev μ-loop : tie.MeasureT-loop
-μ-loop words l work₀ types t₀ work t = types - t
+μ-loop words targets work₀ types t₀ work t = typeCount words - t
 
-types : (e : tie.Start Inv-loop μ-loop) → e .args .l .types ≡ typeCount (e .args .words .now)
-types e = type-count _ _ (e .pre .0 .indexed .rows .laid)
+walking : {g : Graph} {W : List ℕ} → workWords * g .types ≤ length W → Settled g W → Walking g W
+walking room s = record { marking = s .marking; trail = room }
 
 loop-holds : tie.Need-loop-holds Inv-loop μ-loop
-loop-holds c = let e = c .before .before in (types e, settling-none _ _ (e .pre .1 .marking))
-
-mul-if1 : tie.Need-mul-if1 Inv-loop μ-loop
-mul-if1 c = search needs
+loop-holds c = (c .types-in .ensures, omega arith, settling-none _ (walking (c .before .before .before .before .pre .1 .0) (c .before .before .before .before .pre .1 .1)))
 
 slice-read-if1 : tie.Need-slice-read-if1 Inv-loop μ-loop
-slice-read-if1 c = let i = c .before .before .loop .inv in omega (arith, c .before .loop-test .taken, i .0, i .1 .marking .room)
+slice-read-if1 c = omega (arith, c .before .loop-test .taken, c .before .before .loop .inv .0, c .before .before .loop .inv .2 .size, c .before .before .before .before .before .before .before .pre .1 .0)
 
-mul-work : tie.Need-mul-work Inv-loop μ-loop
-mul-work c = search needs
-
-slice-write-work : tie.Need-slice-write-work Inv-loop μ-loop
-slice-write-work c = let i = c .before .before .before .before .loop .inv in omega (arith, c .before .before .before .loop-test .taken, i .0, i .1 .marking .room)
-
-cast-t15 : tie.Need-cast-t15 Inv-loop μ-loop
-cast-t15 c = search needs
-
-settle-type-requires : tie.Need-settle-type-requires Inv-loop μ-loop
-settle-type-requires c κs =
-    let b = c .before .before .before .before .before in
-    let e = b .before .before .before in
-    let i = b .loop .inv in
-    let low : b .loop .t < typeCount (e .args .words .now) = omega (arith, c .before .before .before .before .loop-test .taken, i .0) in (
-      helped-mark (helped-rest (e .pre .0) _ _ (sym (types e)) (i .1 .size) (i .1 .rest)) _ _ (omega (arith, low, types e)),
-      (omega (arith, low, types e), settling-enter _ _ (i .1 .marking) _ low (c .before .if1 .taken) .marking),
-    )
-
-add-t : tie.Need-add-t Inv-loop μ-loop
-add-t c = search needs
-
-loop-less : tie.Need-loop-less Inv-loop μ-loop
-loop-less c = search needs
+settle-from-requires : tie.Need-settle-from-requires Inv-loop μ-loop
+settle-from-requires c κs = (c .before .before .before .before .before .before .before .before .before .before .pre .0, ((omega (arith, c .before .before .before .before .loop-test .taken, c .before .before .before .before .before .loop .inv .0), c .before .if1 .taken), walking-on _ (walking (c .before .before .before .before .before .before .before .before .before .before .pre .1 .0) (c .before .before .before .before .before .before .before .before .before .before .pre .1 .1)) (c .before .before .before .before .before .loop .inv .2)))
 
 loop-again : tie.Need-loop-again Inv-loop μ-loop
-loop-again c =
-    let b = c .before .before .before .before in
-    let e = b .before .before .before in
-    let i = b .loop .inv in
-    let low : b .loop .t < typeCount (e .args .words .now) = omega (arith, c .before .before .before .loop-test .taken, i .0) in (
-      i .0,
-      ⊎-elim
-          (λ w. rw (w .5) (settling-join _ (i .1) (settling-join _ (settling-enter _ _ (i .1 .marking) _ low (w .0 .taken)) (w .2 .ensures))))
-          (λ w. rw (w .1) (i .1))
-          (c .if1 .came),
-    )
+loop-again c = (
+  c .before .before .before .before .loop .inv .0,
+  omega (arith, c .before .before .before .loop-test .taken, c .before .before .before .before .loop .inv .0),
+  ⊎-elim (λ w. rw (w .5) (settling-join _ (c .before .before .before .before .loop .inv .2) (w .2 .ensures))) (λ w. rw (w .1) (c .before .before .before .before .loop .inv .2)) (c .if1 .came),
+)
 
 forget-requires : tie.Need-forget-requires Inv-loop μ-loop
-forget-requires c κs = let i = c .before .before .loop .inv in omega (arith, i .0, i .1 .marking .room)
+forget-requires c κs = omega (arith, c .before .before .loop .inv .0, c .before .before .loop .inv .2 .size, c .before .before .before .before .before .before .before .pre .1 .0)
 
 same-length : tie.Need-same-length Inv-loop μ-loop
-same-length c = c .before .before .forget .kept .0 ∙ c .before .before .before .before .before .loop .inv .1 .size
+same-length c = c .before .before .forget .ensures .size ∙ c .before .before .before .before .before .loop .inv .2 .size
 
 returns : tie.Need-returns Inv-loop μ-loop
-returns c = let i = c .before .before .before .before .before .loop .inv in all-settled _ (i .0) (i .1) (c .before .before .forget .ensures)
+returns c = all-settled (c .before .before .before .before .before .before .types-in .result) (c .before .before .before .before .before .before .types-in .ensures) (c .before .before .before .before .before .loop .inv .2) (c .before .before .forget .ensures)
 
 pub settle-spec : {M : Type 1} → statement M
 settle-spec =
@@ -84,15 +56,14 @@ settle-spec =
     (tie.spec
     Inv-loop
     μ-loop
+    (λ c κs. search needs)  -- types-in-requires
     loop-holds
-    mul-if1
+    (λ c. search needs)  -- mul-if1
     slice-read-if1
-    mul-work
-    slice-write-work
-    cast-t15
-    settle-type-requires
-    add-t
-    loop-less
+    (λ c. search needs)  -- cast-t12
+    settle-from-requires
+    (λ c. search needs)  -- add-t
+    (λ c. search needs)  -- loop-less
     loop-again
     forget-requires
     same-length

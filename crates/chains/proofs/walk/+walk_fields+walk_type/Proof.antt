@@ -12,15 +12,12 @@ use mathlib.Core.Logic.{inl, inr, ⊎-elim}
 use Prim.Native.Nat.{ℕ, _<_, _+_, _*_, _-_}
 use native.Mathlib.Omega.{arith}
 use lib.ListN.{length, getD, set, length-set}
-use Rattle.table.specs.Layout.{typeCount}
+use Rattle.table.specs.Layout.{layoutOf, typeCount, fieldCount}
 use Rattle.rows.specs.Readable.{SoundRows}
 use Rattle.rows.proofs.FoundTypes.{at-below, at-row, nothing-none}
-use Rattle.rows.proofs.PartLaws.{type-count}
-use Rattle.chains.specs.Chains.{Graph}
-use Rattle.chains.specs.Fields.{chainGraph}
+use Rattle.links.specs.Chains.{Graph}
+use Rattle.links.specs.Fields.{chainGraph}
 use Rattle.chains.specs.Search.{free, Opens, MayWalk, Missed}
-use Rattle.chains.specs.Answer.{Helped}
-use Rattle.chains.proofs.HelpLaws.{helped-mark, helped-only}
 use Rattle.chains.proofs.Turns.{Turn, turn-first, turn-done, turn-skip, turn-missed, found-here, found-below, in-row, opens, enter-falls, enter-ready, walked-from, missed-output}
 use Rattle.chains.proofs.walk.walk_fields.Reads as walk-fields
 use Rattle.chains.proofs.walk.walk_fields.Kinds as walk-fields-kinds
@@ -28,38 +25,38 @@ use Rattle.chains.proofs.walk.+walk_fields+walk_type.Lts-walk_fields as
 use Rattle.chains.proofs.walk.walk_type.Reads as walk-type
 use Rattle.chains.proofs.walk.walk_type.Kinds as walk-type-kinds
 use Rattle.chains.proofs.walk.+walk_fields+walk_type.Lts-walk_type as walk-type-lts
-use Rattle.chains.proofs.fields.chains_end.Reads as chains-end
-use Rattle.chains.proofs.fields.target_by.Reads as target
+use Rattle.links.proofs.chains_end.Reads as chains-end
+use Rattle.links.proofs.target.Reads as target
 use Rattle.chains.proofs.walk.store.Reads as store
-use Rattle.rows.proofs.parts.fields_start.Reads as fields-start
+use Rattle.links.proofs.chains_start.Reads as chains-start
 use Rattle.table.proofs.numbers.TypeRow.same.Reads as same
 use Rattle.chains.proofs.walk.+walk_fields+walk_type.{statement}
 use Rattle.chains.proofs.walk.+walk_fields+walk_type.Tie.{close}
 
-abbrev μ-walk-fields : Measures 3 walk-fields-kinds.ps ℕ
+abbrev μ-walk-fields : Measures 4 walk-fields-kinds.ps ℕ
 μ-walk-fields κs a = 2 * free (typeCount (a .0 .now)) (a .1 .1 .1 .1 .1 .1 .0 .now)
 
-abbrev μ-walk-type : Measures 3 walk-type-kinds.ps ℕ
+abbrev μ-walk-type : Measures 4 walk-type-kinds.ps ℕ
 μ-walk-type κs a = 2 * free (typeCount (a .0 .now)) (a .1 .1 .1 .1 .1 .0 .now) + 1
 
 -- what each is given at the measure m, and what a call of it asks below m
-abbrev walk-fields-at : ℕ → In 3 walk-fields-kinds.ps
-walk-fields-at m = and 3 walk-fields-kinds.ps (is 3 walk-fields-kinds.ps μ-walk-fields m) walk-fields.Pre
+abbrev walk-fields-at : ℕ → In 4 walk-fields-kinds.ps
+walk-fields-at m = and 4 walk-fields-kinds.ps (is 4 walk-fields-kinds.ps μ-walk-fields m) walk-fields.Pre
 
-abbrev walk-fields-below : ℕ → In 3 walk-fields-kinds.ps
-walk-fields-below m = and 3 walk-fields-kinds.ps (falls 3 walk-fields-kinds.ps _<_ μ-walk-fields m) walk-fields.Pre
+abbrev walk-fields-below : ℕ → In 4 walk-fields-kinds.ps
+walk-fields-below m = and 4 walk-fields-kinds.ps (falls 4 walk-fields-kinds.ps _<_ μ-walk-fields m) walk-fields.Pre
 
-abbrev walk-type-at : ℕ → In 3 walk-type-kinds.ps
-walk-type-at m = and 3 walk-type-kinds.ps (is 3 walk-type-kinds.ps μ-walk-type m) walk-type.Pre
+abbrev walk-type-at : ℕ → In 4 walk-type-kinds.ps
+walk-type-at m = and 4 walk-type-kinds.ps (is 4 walk-type-kinds.ps μ-walk-type m) walk-type.Pre
 
-abbrev walk-type-below : ℕ → In 3 walk-type-kinds.ps
-walk-type-below m = and 3 walk-type-kinds.ps (falls 3 walk-type-kinds.ps _<_ μ-walk-type m) walk-type.Pre
+abbrev walk-type-below : ℕ → In 4 walk-type-kinds.ps
+walk-type-below m = and 4 walk-type-kinds.ps (falls 4 walk-type-kinds.ps _<_ μ-walk-type m) walk-type.Pre
 
 abbrev Inv-loop : walk-fields-lts.InvT-loop
-Inv-loop words l t first depth work₀ out₀ end f₀ work out f = (out ≡ out₀) × Turn (chainGraph words) (t .0) end first work₀ work f
+Inv-loop words targets t first depth work₀ out₀ end f₀ work out f = (out ≡ out₀) × Turn (chainGraph words) (t .0) end first work₀ work f
 
 abbrev μ-loop : walk-fields-lts.MeasureT-loop
-μ-loop words l t first depth work₀ out₀ end f₀ work out f = end - f
+μ-loop words targets t first depth work₀ out₀ end f₀ work out f = end - f
 
 abbrev calls : ℕ → walk-fields-lts.Claims
 calls m = (chains-end.Asked, chains-end.Learnt, target.Asked, target.Learnt, same.Asked, same.Learnt, store.Asked, store.Learnt, walk-type-below m, walk-type.Post)
@@ -86,10 +83,10 @@ module _ (m : ℕ) where
   Walked-below = walk-fields-lts.After-walk-type (calls m) (walk-fields-at m) walk-fields.Post Inv-loop μ-loop
 
   abbrev entry : Head → Entry
-  entry b = b .before .before .before .before .before
+  entry b = b .before .before .before .before .before .before
 
   abbrev body : Led → Body
-  body c = c .before .before .before .before
+  body c = c .before .before .before
 
   abbrev head : Led → Head
   head c = body c .before
@@ -100,11 +97,11 @@ module _ (m : ℕ) where
   abbrev entered : Walked-below → Entered
   entered c = c .before .before .before
 
-  -- the rows are sound, the order helps, and a walk may begin
-  abbrev sound : (e : Entry) → SoundRows (e .args .words .now) (e .args .l)
-  sound e = e .pre .1 .0 .indexed .rows
+  -- the rows are sound, and a walk may begin
+  abbrev sound : (e : Entry) → SoundRows (e .args .words .now) (layoutOf (e .args .words .now))
+  sound e = e .pre .1 .0 .rows
 
-  abbrev may : (e : Entry) → MayWalk (chainGraph (e .args .words .now)) (e .args .l .fields) (e .args .s .0) (e .args .depth) (e .args .work .now)
+  abbrev may : (e : Entry) → MayWalk (chainGraph (e .args .words .now)) (fieldCount (e .args .words .now)) (e .args .s .0) (e .args .depth) (e .args .work .now)
   may e = e .pre .1 .1
 
   abbrev at-head : Head → Graph
@@ -115,28 +112,21 @@ module _ (m : ℕ) where
   stops b = sym (b .before .chains-end .ensures)
 
   -- in a turn f is a row
-  row : (c : Body) → c .before .loop .f < entry (c .before) .args .l .fields
+  row : (c : Body) → c .before .loop .f < fieldCount (entry (c .before) .args .words .now)
   row c = in-row (may (entry (c .before))) (c .before .loop .f) (rw (stops (c .before)) (c .loop-test .taken))
 
   row-small : (c : Body) → c .before .loop .f < 8192
   row-small c = omega (arith, row c, may (entry (c .before)) .shaped .fields)
-
-  -- the order still stands in the work words
-  same-count : (b : Head) → at-head b .types ≡ entry b .args .l .types
-  same-count b = sym (type-count _ _ (sound (entry b) .laid))
-
-  helped : (b : Head) → Helped (entry b .args .words .now) (entry b .args .l) (b .loop .work)
-  helped b = helped-only (entry b .pre .1 .0) _ _ (same-count b) (b .loop .inv .1 .only)
 
   -- the type that f leads to
   abbrev u : Led → ℕ
   u c = c .u .given .0 .0 .0
 
   leads : (c : Led) → u c ≡ at-head (head c) .next (head c .loop .f)
-  leads c = at-row _ _ _ (sym (c .before .before .target-by .ensures) ∙ c .u .given .1)
+  leads c = at-row _ _ _ (sym (c .before .before .target .ensures) ∙ c .u .given .1)
 
   below : (c : Led) → u c < at-head (head c) .types
-  below c = omega (arith, leads c, at-below _ _ _ (sym (c .before .before .target-by .ensures) ∙ c .u .given .1), same-count (head c))
+  below c = omega (arith, leads c, at-below _ _ _ (sym (c .before .before .target .ensures) ∙ c .u .given .1))
 
   -- where a type is entered: it was not before, and the measure falls
   module _ (c : Led) (other : u c ≡ entry (head c) .args .t .0 → ⊥) (fresh : getD (head c .loop .work) (u c) 0 ≡ 0) where
@@ -146,7 +136,7 @@ module _ (m : ℕ) where
     less : let k = at-head (head c) .types in 2 * free k (set (head c .loop .work) (u c) 1) + 1 < 2 * free k (entry (head c) .args .work .now)
     less = enter-falls _ _ _ _ _ _ _ (head c .loop .inv .1) _ (leads c) (may (entry (head c))) (below c) other fresh
 
-    may-enter : MayWalk (at-head (head c)) (entry (head c) .args .l .fields) (u c) (entry (head c) .args .depth + 1) (set (head c .loop .work) (u c) 1)
+    may-enter : MayWalk (at-head (head c)) (fieldCount (entry (head c) .args .words .now)) (u c) (entry (head c) .args .depth + 1) (set (head c .loop .work) (u c) 1)
     may-enter = enter-ready _ _ _ _ _ _ _ (head c .loop .inv .1) _ (leads c) (may (entry (head c))) (below c) other fresh
 
   -- at the test of its mark, the type that f leads to is not the target
@@ -158,7 +148,7 @@ module _ (m : ℕ) where
       let d : Entered = c .before .before in
       let b = head (led d) in (
         omega (arith, less (led d) (other d) (d .if2 .taken), entry b .pre .0),
-        (helped-mark (helped b) _ _ (omega (arith, below (led d), same-count b)), may-enter (led d) (other d) (d .if2 .taken)),
+        (entry b .pre .1 .0, may-enter (led d) (other d) (d .if2 .taken)),
       )
 
   -- the walk of the type that was entered keeps the length of the work words
@@ -198,8 +188,8 @@ module _ (m : ℕ) where
   -- a turn ends after a walk that failed, at a type that was entered before, or at a field that is no chain field
   loop-again : walk-fields-lts.Need-loop-again (calls m) (walk-fields-at m) walk-fields.Post Inv-loop μ-loop
   loop-again c =
-      let b : Head = c .before .before .before .before in
-      let lt = c .before .before .before .loop-test .taken in
+      let b : Head = c .before .before .before in
+      let lt = c .before .before .loop-test .taken in
       let i = b .loop .inv in (
         ⊎-elim (λ w. w .18 ∙ missed-output (w .11 .ensures) (w .16 .left) ∙ i .0) (⊎-elim (λ w. w .10 ∙ i .0) (λ w. w .3 ∙ i .0)) (c .match .came),
         ⊎-elim
@@ -211,7 +201,7 @@ module _ (m : ℕ) where
             let d : Led = record { before = record { before = c .before; match = w .0 }; u = w .1 } in
             turn-skip _ _ _ _ _ _ _ (i .1) _ (leads d) lt _ (w .9) (λ _. (eqb-false _ _ (sym (w .3 .ensures) ∙ w .4 .left), w .8 .left)))
             (λ w. turn-skip _ _ _ _ _ _ _ (i .1) _ refl lt _ (w .2)
-            (λ l. absurd (omega (arith, l, nothing-none _ _ (sym (c .before .target-by .ensures) ∙ w .1 .given .1), same-count b)))))
+            (λ l. absurd (omega (arith, l, nothing-none _ _ (sym (c .before .target .ensures) ∙ w .1 .given .1))))))
             (c .match .came),
       )
 
@@ -228,9 +218,9 @@ pub +walk-fields+walk-type-spec : {M : Type 1} → statement M
     walk-fields.Post
     Inv-loop
     μ-loop
-    (λ c κs. let e : Entry m = c .before .before .before in (sound m e .laid, omega (arith, may m e .type, type-count _ _ (sound m e .laid))))  -- chains-end-requires
+    (λ c κs. let e : Entry m = c .before .before .before .before in (sound m e .laid, may m e .type))  -- chains-end-requires
     (λ c. (refl, turn-first _ _ _ _ _))  -- loop-holds
-    (λ c κs. let b = c .before .before in (helped m b, row m (c .before)))  -- target-by-requires
+    (λ c κs. (entry m (c .before) .pre .1 .0 .targets, row m c))  -- target-requires
     (λ c. search needs)  -- enum-known-u
     (λ c κs. search needs)  -- same-requires
     (λ c κs. omega (arith, row-small m (body m (c .before .before .before .before))))  -- store-requires
@@ -251,7 +241,7 @@ pub +walk-fields+walk-type-spec : {M : Type 1} → statement M
     c .before .before .store2 .kept .0 ∙ w .walk-type .kept .1 .1 .1 .1 .1 .1 .0 ∙ ap length (head m (led m (entered m w)) .loop .inv .0))  -- same-length-4
     (returns-2 m)
     (λ c. search needs)  -- enum-told
-    (λ c. omega (arith, row-small m (c .before .before .before)))  -- add-f
+    (λ c. omega (arith, row-small m (c .before .before)))  -- add-f
     (λ c. search needs)  -- loop-less
     (loop-again m)
     (λ c. search needs)  -- same-length-5
@@ -259,13 +249,11 @@ pub +walk-fields+walk-type-spec : {M : Type 1} → statement M
     (λ c. inl (turn-done _ _ _ _ _ _ _ (c .before .loop .inv .1) _ (stops m (c .before)) (c .loop-test .left) _ _ (c .before .loop .inv .0))))  -- returns-3
     (λ m.
     walk-type-lts.spec
-    (fields-start.Asked, fields-start.Learnt, walk-fields-below m, walk-fields.Post)
+    (chains-start.Asked, chains-start.Learnt, walk-fields-below m, walk-fields.Post)
     (walk-type-at m)
     walk-type.Post
-    (λ c κs. let e = c .before .before .before .pre .1 in
-    let laid = e .0 .indexed .rows .laid in
-    (laid, omega (arith, e .1 .type, type-count _ _ laid)))  -- fields-start-requires
+    (λ c κs. let e = c .before .before .before .before .pre .1 in (e .0 .rows .laid, e .1 .type))  -- chains-start-requires
     (λ c κs. search needs)  -- walk-fields-requires
     (λ c. search needs)  -- same-length
     (λ c. search needs)  -- same-length-2
-    (λ c. walked-from _ _ _ _ _ _ _ _ _ _ _ (c .before .before .before .before .before .before .before .fields-start .ensures) (c .before .before .before .before .walk-fields .ensures)))  -- returns
+    (λ c. walked-from _ _ _ _ _ _ _ _ _ _ _ (c .before .before .before .before .before .before .before .chains-start .ensures) (c .before .before .before .before .walk-fields .ensures)))  -- returns

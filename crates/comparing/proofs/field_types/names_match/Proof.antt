@@ -25,8 +25,9 @@ enum-told c = search needs
 returns-2 : tie.Need-returns-2
 unfolding namesMatch
 returns-2 c =
-    let entry = c .before .before .before .before .before .before .before in
-    simp (sym (c .before .before .before .before .same .ensures) ∙ c .before .before .before .if1 .left, unnamed _ _ (entry .pre .rows .laid) _ _ (c .before .before .look-up .ensures) (c .enum-told .given .1))
+    let same = c .before .before .before .before .same in
+    let entry = c .before .before .before .before .before .before .before .before in
+    simp (sym (same .ensures) ∙ c .before .before .before .if1 .left, unnamed _ _ (entry .pre .indexed .rows .laid) _ _ (c .before .before .look-up .ensures) (c .enum-told .given .1))
 
 look-up-requires-2 : tie.Need-look-up-requires-2
 look-up-requires-2 c κs = search needs
@@ -40,51 +41,54 @@ enum-told-2 c = search needs
 returns-3 : tie.Need-returns-3
 unfolding namesMatch
 returns-3 c =
-    let at-look-up = c .before .before .before .before .before .before in
-    let at-if1 = at-look-up .before in
-    let at-same = at-if1 .before in
-    let entry = at-same .before .before .before in
-    simp (sym (at-same .same .ensures) ∙ at-if1 .if1 .left, named _ _ (entry .pre .rows .laid) _ _ (at-look-up .look-up .ensures) _ (c .before .before .before .before .ty .given .1) .there, unnamed _ _ (entry .pre .rows .laid) _ _ (c .before .before .look-up2 .ensures) (c .enum-told2 .given .1))
+    let same = c .before .before .before .before .before .before .before .before .same in
+    let if1 = c .before .before .before .before .before .before .before .if1 in
+    let entry = c .before .before .before .before .before .before .before .before .before .before .before .before in
+    let look-up = c .before .before .before .before .before .before .look-up in
+    let ty = c .before .before .before .before .ty in
+    simp (sym (same .ensures) ∙ if1 .left, named _ _ (entry .pre .indexed .rows .laid) _ _ (look-up .ensures) _ (ty .given .1) .there, unnamed _ _ (entry .pre .indexed .rows .laid) _ _ (c .before .before .look-up2 .ensures) (c .enum-told2 .given .1))
 
 has-edge-requires : tie.Need-has-edge-requires
 has-edge-requires c κs =
-    let at-look-up = c .before .before .before .before .before .before .before in
-    let entry = at-look-up .before .before .before .before .before in
-    (entry .pre .rows, (named _ _ (entry .pre .rows .laid) _ _ (at-look-up .look-up .ensures) _ (c .before .before .before .before .before .ty .given .1) .below, named _ _ (entry .pre .rows .laid) _ _ (c .before .before .before .look-up2 .ensures) _ (c .before .own .given .1) .below))
-
-has-object-member-requires : tie.Need-has-object-member-requires
-has-object-member-requires c κs =
-    let at-ty = c .before .before .before .before .before .before in
-    let at-look-up = at-ty .before .before in
-    let entry = at-look-up .before .before .before .before .before in
-    (entry .pre .rows, (named _ _ (entry .pre .rows .laid) _ _ (at-look-up .look-up .ensures) _ (at-ty .ty .given .1) .below, named _ _ (entry .pre .rows .laid) _ _ (c .before .before .before .before .look-up2 .ensures) _ (c .before .before .own .given .1) .below))
+    let entry = c .before .before .before .before .before .before .before .before .before .before .before .before .before in
+    let look-up = c .before .before .before .before .before .before .before .look-up in
+    let ty = c .before .before .before .before .before .ty in
+    (entry .pre .sorted, (named _ _ (entry .pre .indexed .rows .laid) _ _ (look-up .ensures) _ (ty .given .1) .below, named _ _ (entry .pre .indexed .rows .laid) _ _ (c .before .before .before .look-up2 .ensures) _ (c .before .own .given .1) .below))
 
 returns-4 : tie.Need-returns-4
 unfolding namesMatch implements objectMember
 returns-4 c =
-    let at-ty = c .before .before .before .before .before .before .before in
-    let at-look-up = at-ty .before .before in
-    let at-if1 = at-look-up .before in
-    let at-same = at-if1 .before in
-    let entry = at-same .before .before .before in
-    let m = named _ _ (entry .pre .rows .laid) _ _ (at-look-up .look-up .ensures) _ (at-ty .ty .given .1) in
-    let o = named _ _ (entry .pre .rows .laid) _ _ (c .before .before .before .before .before .look-up2 .ensures) _ (c .before .before .before .own .given .1) in
-    simp (sym (at-same .same .ensures) ∙ at-if1 .if1 .left, m .there, o .there, c .before .has-edge .ensures, c .has-object-member .ensures, m .row, o .row)
+    let entry = c .before .before .before .before .before .before .before .before .before .before .before .before .before .before .before in
+    let look-up = c .before .before .before .before .before .before .before .before .before .look-up in
+    let ty = c .before .before .before .before .before .before .before .ty in
+    let look-up2 = c .before .before .before .before .before .look-up2 in
+    let same = c .before .before .before .before .before .before .before .before .before .before .before .same in
+    let if1 = c .before .before .before .before .before .before .before .before .before .before .if1 in
+    let m = named _ _ (entry .pre .indexed .rows .laid) _ _ (look-up .ensures) _ (ty .given .1) in
+    let o = named _ _ (entry .pre .indexed .rows .laid) _ _ (look-up2 .ensures) _ (c .before .before .before .own .given .1) in
+    simp (sym (same .ensures) ∙ if1 .left, m .there, o .there, sym (c .before .has-edge .ensures) ∙ c .if2 .taken, ← m .row, ← o .row)
+
+has-object-member-requires : tie.Need-has-object-member-requires
+has-object-member-requires c κs =
+    let entry = c .before .before .before .before .before .before .before .before .before .before .before .before .before .before .before in
+    let look-up = c .before .before .before .before .before .before .before .before .before .look-up in
+    let ty = c .before .before .before .before .before .before .before .ty in
+    let look-up2 = c .before .before .before .before .before .look-up2 in
+    (entry .pre .sorted, (named _ _ (entry .pre .indexed .rows .laid) _ _ (look-up .ensures) _ (ty .given .1) .below, named _ _ (entry .pre .indexed .rows .laid) _ _ (look-up2 .ensures) _ (c .before .before .before .own .given .1) .below))
+
+returns-5 : tie.Need-returns-5
+unfolding namesMatch implements objectMember
+returns-5 c =
+    let entry = c .before .before .before .before .before .before .before .before .before .before .before .before .before .before .before .before in
+    let look-up = c .before .before .before .before .before .before .before .before .before .before .look-up in
+    let ty = c .before .before .before .before .before .before .before .before .ty in
+    let look-up2 = c .before .before .before .before .before .before .look-up2 in
+    let own = c .before .before .before .before .own in
+    let same = c .before .before .before .before .before .before .before .before .before .before .before .before .same in
+    let if1 = c .before .before .before .before .before .before .before .before .before .before .before .if1 in
+    let m = named _ _ (entry .pre .indexed .rows .laid) _ _ (look-up .ensures) _ (ty .given .1) in
+    let o = named _ _ (entry .pre .indexed .rows .laid) _ _ (look-up2 .ensures) _ (own .given .1) in
+    simp (sym (same .ensures) ∙ if1 .left, m .there, o .there, sym (c .before .before .has-edge .ensures) ∙ c .before .if2 .left, c .has-object-member .ensures, ← m .row, ← o .row)
 
 pub names-match-spec : {M : Type 1} → statement M
-names-match-spec =
-    tie.close
-    (tie.spec
-    same-requires
-    returns
-    look-up-requires
-    enum-known-ty
-    enum-told
-    returns-2
-    look-up-requires-2
-    enum-known-own
-    enum-told-2
-    returns-3
-    has-edge-requires
-    has-object-member-requires
-    returns-4)
+names-match-spec = tie.close (tie.spec same-requires returns look-up-requires enum-known-ty enum-told returns-2 look-up-requires-2 enum-known-own enum-told-2 returns-3 has-edge-requires returns-4 has-object-member-requires returns-5)

@@ -12,8 +12,8 @@ use Rattle.comparing.proofs.implementation_argument.validate_extra_argu
 argument-name-requires : tie.Need-argument-name-requires
 argument-name-requires c κs = search needs
 
-find-argument-requires : tie.Need-find-argument-requires
-find-argument-requires c κs = search needs
+look-up-argument-requires : tie.Need-look-up-argument-requires
+look-up-argument-requires c κs = search needs
 
 enum-told : tie.Need-enum-told
 enum-told c = search needs
@@ -23,7 +23,7 @@ enum-told-2 c = search needs
 
 returns : tie.Need-returns
 unfolding extraArgument
-returns c = let h = rw (c .before .before .before .argument-name .ensures) at (row-below _ _ _ (sym (c .before .before .find-argument .ensures) ∙ c .enum-told2 .given .1)) in
+returns c = let h = rw (c .before .before .before .argument-name .ensures) at (row-below _ _ _ (sym (c .before .before .look-up-argument .ensures) ∙ c .enum-told2 .given .1)) in
     (simp (lt-ltb _ _ h) (emit-none _), omega arith)
 
 argument-wrap-requires : tie.Need-argument-wrap-requires
@@ -53,39 +53,24 @@ same-length c = search needs
 returns-2 : tie.Need-returns-2
 unfolding extraArgument
 returns-2 c =
-    let at-argument-default = c .before .before .before .before .before .before in
-    let at-non-null = at-argument-default .before in
-    let at-argument-wrap = at-non-null .before in
-    let at-enum-told = at-argument-wrap .before in
-    let at-find-argument = at-enum-told .before .before in
-    let at-argument-name = at-find-argument .before in
-    let h = rw (at-argument-name .argument-name .ensures) at (no-row _ _ (sym (at-find-argument .find-argument .ensures) ∙ at-enum-told .enum-told .given .1)) in
-    (simp (le-ltb _ _ h, simp (at-non-null .non-null .ensures, at-argument-wrap .argument-wrap .ensures, at-argument-default .argument-default .ensures) at (c .before .before .before .before .before .if1 .taken), ← c .before .before .before .extra-required-implementation-field-argument .ensures) (c .before .before .put .ensures .0), c .before .before .put .ensures .1)
+    let argument-name = c .before .before .before .before .before .before .before .before .before .before .before .before .argument-name in
+    let look-up-argument = c .before .before .before .before .before .before .before .before .before .before .before .look-up-argument in
+    let enum-told = c .before .before .before .before .before .before .before .before .before .enum-told in
+    let non-null = c .before .before .before .before .before .before .before .non-null in
+    let argument-wrap = c .before .before .before .before .before .before .before .before .argument-wrap in
+    let argument-default = c .before .before .before .before .before .before .argument-default in
+    let if1 = c .before .before .before .before .before .if1 in
+    let h = rw (argument-name .ensures) at (no-row _ _ (sym (look-up-argument .ensures) ∙ enum-told .given .1)) in
+    (simp (le-ltb _ _ h, simp (non-null .ensures, argument-wrap .ensures, argument-default .ensures) at (if1 .taken), ← c .before .before .before .extra-required-implementation-field-argument .ensures) (c .before .before .put .ensures .0), c .before .before .put .ensures .1)
 
 returns-3 : tie.Need-returns-3
 unfolding extraArgument
 returns-3 c =
-    let at-find-argument = c .before .before .before .before .before .before in
-    let at-argument-name = at-find-argument .before in
-    let h = rw (at-argument-name .argument-name .ensures) at (no-row _ _ (sym (at-find-argument .find-argument .ensures) ∙ c .before .before .before .before .enum-told .given .1)) in
+    let argument-name = c .before .before .before .before .before .before .before .argument-name in
+    let look-up-argument = c .before .before .before .before .before .before .look-up-argument in
+    let enum-told = c .before .before .before .before .enum-told in
+    let h = rw (argument-name .ensures) at (no-row _ _ (sym (look-up-argument .ensures) ∙ enum-told .given .1)) in
     (simp (le-ltb _ _ h, simp (c .before .before .non-null .ensures, c .before .before .before .argument-wrap .ensures, c .before .argument-default .ensures) at (c .if1 .left)) (emit-none _), omega arith)
 
 pub validate-extra-argument-spec : {M : Type 1} → statement M
-validate-extra-argument-spec =
-    tie.close
-    (tie.spec
-    argument-name-requires
-    find-argument-requires
-    enum-told
-    enum-told-2
-    returns
-    argument-wrap-requires
-    non-null-requires
-    argument-default-requires
-    add-extra-required-implementation-field-argument
-    cast-extra-required-implementation-field-argument
-    extra-required-implementation-field-argument-requires
-    put-requires
-    same-length
-    returns-2
-    returns-3)
+validate-extra-argument-spec = tie.close (tie.spec argument-name-requires look-up-argument-requires enum-told enum-told-2 returns argument-wrap-requires non-null-requires argument-default-requires add-extra-required-implementation-field-argument cast-extra-required-implementation-field-argument extra-required-implementation-field-argument-requires put-requires same-length returns-2 returns-3)

@@ -1,86 +1,65 @@
--- `validate_interface_arguments`: after i rows the output holds their records, and each turn writes one row's behind them.
+-- Cells that tell the arguments help, and so do none.
 use borrow.Author.Needs.{needs}
-use native.Mathlib.Omega.{arith}
-use Rattle.records.proofs.Records.{each-zero, each-more, emit-none, emit-seq}
-use Rattle.records.specs.Records.{Emitted, each}
-use Rattle.comparing.specs.Arguments.{demandedArgument}
-use mathlib.Core.Path.{_≡_}
-use Prim.Native.Nat.{_≤_, _-_}
-use Rattle.rows.specs.Parts.{argumentRows}
+use mathlib.Core.Path.{refl}
+use Rattle.lookup.proofs.CellLaws.{told-helps, none-helps}
 use Rattle.comparing.proofs.implementation_argument.validate_interface_arguments.Statement.{statement}
 use Rattle.comparing.proofs.implementation_argument.validate_interface_arguments.Tie as tie
 
-abbrev Inv-loop : tie.InvT-loop
-Inv-loop pair first arguments demandedFirst demanded out₀ rows n₀ i₀ out n i = (i ≤ argumentRows demanded) × (rows ≡ argumentRows demanded) × (n ≤ i) × Emitted (each (demandedArgument pair first arguments demandedFirst demanded) i) out₀ out n
+has-few-requires : tie.Need-has-few-requires
+has-few-requires c κs = search needs
 
-abbrev μ-loop : tie.MeasureT-loop
-μ-loop pair first arguments demandedFirst demanded out₀ rows n₀ i₀ out n i = argumentRows demanded - i
+has-few-requires-2 : tie.Need-has-few-requires-2
+has-few-requires-2 c κs = search needs
 
-argument-rows-requires : tie.Need-argument-rows-requires Inv-loop μ-loop
-argument-rows-requires c κs = search needs
+slice-aggregate-validate-each-interface-argument : tie.Need-slice-aggregate-validate-each-interface-argument
+slice-aggregate-validate-each-interface-argument c = search needs
 
-loop-holds : tie.Need-loop-holds Inv-loop μ-loop
-loop-holds c = (omega arith, c .argument-rows .ensures, omega arith, rw each-zero (emit-none _))
-
-used-requires : tie.Need-used-requires Inv-loop μ-loop
-used-requires c κs = search needs
-
-mul-validate-interface-argument : tie.Need-mul-validate-interface-argument Inv-loop μ-loop
-mul-validate-interface-argument c = search needs
-
-sub-validate-interface-argument : tie.Need-sub-validate-interface-argument Inv-loop μ-loop
-sub-validate-interface-argument c = search needs
-
-part-validate-interface-argument-start : tie.Need-part-validate-interface-argument-start Inv-loop μ-loop
-part-validate-interface-argument-start c = search needs
-
-part-validate-interface-argument-end : tie.Need-part-validate-interface-argument-end Inv-loop μ-loop
-part-validate-interface-argument-end c = search needs
-
-validate-interface-argument-requires : tie.Need-validate-interface-argument-requires Inv-loop μ-loop
-validate-interface-argument-requires c κs =
+validate-each-interface-argument-requires : tie.Need-validate-each-interface-argument-requires
+validate-each-interface-argument-requires c κs =
     let entry = c .before .before .before .before .before .before .before .before in
-    (entry .pre, (rw (c .before .before .before .loop .inv .1) at (c .before .before .loop-test .taken)))
+    (entry .pre .0, none-helps _ _)
 
-add-n : tie.Need-add-n Inv-loop μ-loop
-add-n c = search needs
-
-add-i : tie.Need-add-i Inv-loop μ-loop
-add-i c = search needs
-
-loop-less : tie.Need-loop-less Inv-loop μ-loop
-loop-less c = search needs
-
-loop-again : tie.Need-loop-again Inv-loop μ-loop
-loop-again c =
-    let turn = c .before .before .before .before .before .before in
-    (search needs, turn .loop .inv .1, search needs, rw each-more (emit-seq _ _ _ _ _ _ _ _ (turn .loop .inv .3) (c .before .before .before .before .used .ensures) (c .before .before .validate-interface-argument .ensures .0)))
-
-same-length : tie.Need-same-length Inv-loop μ-loop
+same-length : tie.Need-same-length
 same-length c = search needs
 
-returns : tie.Need-returns Inv-loop μ-loop
-returns c =
-    let entry = c .before .before .before .before .before .before in
-    let e : c .before .loop .i ≡ argumentRows (entry .args .interface-arguments .now) = omega arith in (rw e at (c .before .loop .inv .3), omega arith)
+returns : tie.Need-returns
+returns c = search needs
+
+slice-aggregate-index-arguments : tie.Need-slice-aggregate-index-arguments
+slice-aggregate-index-arguments c = search needs
+
+index-arguments-requires : tie.Need-index-arguments-requires
+index-arguments-requires c κs =
+    let entry = c .before .before .before .before .before .before .before in
+    (entry .pre .1, refl)
+
+slice-aggregate-validate-each-interface-argument-2 : tie.Need-slice-aggregate-validate-each-interface-argument-2
+slice-aggregate-validate-each-interface-argument-2 c = search needs
+
+validate-each-interface-argument-requires-2 : tie.Need-validate-each-interface-argument-requires-2
+validate-each-interface-argument-requires-2 c κs =
+    let entry = c .before .before .before .before .before .before .before .before .before .before .before in
+    (entry .pre .0, told-helps _ (c .before .before .before .index-arguments .ensures))
+
+same-length-2 : tie.Need-same-length-2
+same-length-2 c = search needs
+
+returns-2 : tie.Need-returns-2
+returns-2 c = search needs
 
 pub validate-interface-arguments-spec : {M : Type 1} → statement M
 validate-interface-arguments-spec =
     tie.close
     (tie.spec
-    Inv-loop
-    μ-loop
-    argument-rows-requires
-    loop-holds
-    used-requires
-    mul-validate-interface-argument
-    sub-validate-interface-argument
-    part-validate-interface-argument-start
-    part-validate-interface-argument-end
-    validate-interface-argument-requires
-    add-n
-    add-i
-    loop-less
-    loop-again
+    has-few-requires
+    has-few-requires-2
+    slice-aggregate-validate-each-interface-argument
+    validate-each-interface-argument-requires
     same-length
-    returns)
+    returns
+    slice-aggregate-index-arguments
+    index-arguments-requires
+    slice-aggregate-validate-each-interface-argument-2
+    validate-each-interface-argument-requires-2
+    same-length-2
+    returns-2)

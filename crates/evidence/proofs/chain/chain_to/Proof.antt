@@ -10,32 +10,31 @@ use Rattle.evidence.proofs.chain.chain_to.Tie as tie
 
 returns : tie.Need-returns
 unfolding chainTo
-returns c = rw (← c .before .fields-start .ensures, lt-leb _ _ (c .if1 .taken)) refl
+returns c = rw (← c .before .chains-start .ensures, lt-leb _ _ (c .if1 .taken)) refl
 
 returns-2 : tie.Need-returns-2
 unfolding chainTo
 returns-2 c =
-    let fields-start-call = c .before .before .before .fields-start in
-    rw (← fields-start-call .ensures, le-leb _ _ (c .before .before .if1 .left), ← c .before .chains-end .ensures, le-ltb _ _ (c .if2 .taken)) refl
+    let start = c .before .before .before .chains-start in
+    rw (← start .ensures, le-leb _ _ (c .before .before .if1 .left), ← c .before .chains-end .ensures, le-ltb _ _ (c .if2 .taken)) refl
 
 target-requires : tie.Need-target-requires
 target-requires c κs =
     let e : tie.Start = c .before .before .before .before .before .before in
-    (e .pre .0, omega (arith, chained (e .pre .0 .rows) .inside (e .args .t .0) (e .pre .1)))
+    (e .pre .0 .targets, omega (arith, chained (e .pre .0 .rows) .inside (e .args .t .0) (e .pre .1)))
 
 returns-3 : tie.Need-returns-3
 unfolding chainTo
 returns-3 c =
-    let fields-start-call = c .before .before .before .before .fields-start in
+    let start = c .before .before .before .before .chains-start in
     let if1 = c .before .before .before .if1 in
-    let e : tie.Start = c .before .before .before .before .before .before .before in
-    rw (← fields-start-call .ensures, le-leb _ _ (if1 .left), ← c .before .before .chains-end .ensures, lt-ltb _ _ (c .before .if2 .left)) (rw (chained (e .pre .0 .rows) .types) at (c .target .ensures))
+    rw (← start .ensures, le-leb _ _ (if1 .left), ← c .before .before .chains-end .ensures, lt-ltb _ _ (c .before .if2 .left)) (c .target .ensures)
 
 pub chain-to-spec : {M : Type 1} → statement M
 chain-to-spec =
     tie.close
     (tie.spec
-    (λ c κs. search needs)  -- fields-start-requires
+    (λ c κs. search needs)  -- chains-start-requires
     returns
     (λ c κs. search needs)  -- chains-end-requires
     returns-2

@@ -10,12 +10,12 @@ use Rattle.implementing.proofs.implements_interfaces.validate_transitiv
 edge-name-requires : tie.Need-edge-name-requires
 edge-name-requires c κs = search needs
 
-has-name-requires : tie.Need-has-name-requires
-has-name-requires c κs = search needs
+is-edge-of-requires : tie.Need-is-edge-of-requires
+is-edge-of-requires c κs = search needs
 
 returns : tie.Need-returns
 unfolding transitiveEdge
-returns c = (simp (rw (c .before .before .edge-name .ensures) at (sym (c .before .has-name .ensures) ∙ c .if1 .taken)) (emit-none _), omega arith)
+returns c = (simp (rw (c .before .before .edge-name .ensures) at (sym (c .before .is-edge-of .ensures) ∙ c .if1 .taken)) (emit-none _), omega arith)
 
 add-row : tie.Need-add-row
 add-row c = search needs
@@ -35,20 +35,10 @@ same-length c = search needs
 returns-2 : tie.Need-returns-2
 unfolding transitiveEdge
 returns-2 c =
-    let at-has-name = c .before .before .before .before .before .before in
-    let at-edge-name = at-has-name .before in
-    (simp (rw (at-edge-name .edge-name .ensures) at (sym (at-has-name .has-name .ensures) ∙ c .before .before .before .before .before .if1 .left), ← c .before .before .before .transitive-implemented-interfaces .ensures) (c .before .before .put .ensures .0), c .before .before .put .ensures .1)
+    let edge-name = c .before .before .before .before .before .before .before .edge-name in
+    let is-edge-of = c .before .before .before .before .before .before .is-edge-of in
+    let if1 = c .before .before .before .before .before .if1 in
+    (simp (rw (edge-name .ensures) at (sym (is-edge-of .ensures) ∙ if1 .left), ← c .before .before .before .transitive-implemented-interfaces .ensures) (c .before .before .put .ensures .0), c .before .before .put .ensures .1)
 
 pub validate-transitive-edge-spec : {M : Type 1} → statement M
-validate-transitive-edge-spec =
-    tie.close
-    (tie.spec
-    edge-name-requires
-    has-name-requires
-    returns
-    add-row
-    cast-row
-    transitive-implemented-interfaces-requires
-    put-requires
-    same-length
-    returns-2)
+validate-transitive-edge-spec = tie.close (tie.spec edge-name-requires is-edge-of-requires returns add-row cast-row transitive-implemented-interfaces-requires put-requires same-length returns-2)

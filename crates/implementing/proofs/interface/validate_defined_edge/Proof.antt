@@ -22,8 +22,8 @@ enum-told c = search needs
 returns : tie.Need-returns
 unfolding definedEdge
 returns c =
-    let entry = c .before .before .before .before .before .before .before .before .before in
-    (simp (interface-none _ _ _ (entry .pre .0 .rows .laid) _ (rw (c .before .before .before .edge-name .ensures) at (c .before .before .find-interface .ensures)) (c .enum-told .given .1)) (emit-none _), omega arith)
+    let entry = c .before .before .before .before .before .before .before .before .before .before .before in
+    (simp (interface-none _ _ _ (entry .pre .0 .indexed .rows .laid) _ (rw (c .before .before .before .edge-name .ensures) at (c .before .before .find-interface .ensures)) (c .enum-told .given .1)) (emit-none _), omega arith)
 
 add-edge : tie.Need-add-edge
 add-edge c = search needs
@@ -36,19 +36,20 @@ enum-told-2 c = search needs
 
 validate-transitive-edges-requires : tie.Need-validate-transitive-edges-requires
 validate-transitive-edges-requires c κs =
-    let at-find-interface = c .before .before .before .before .before .before .before in
-    let entry = at-find-interface .before .before .before .before .before .before .before in
-    (entry .pre .0 .rows, interface-at _ _ _ (entry .pre .0 .rows .laid) _ (at-find-interface .find-interface .ensures) _ (c .before .before .before .before .before .interface .given .1) .below)
+    let entry = c .before .before .before .before .before .before .before .before .before .before .before .before .before .before .before .before in
+    let find-interface = c .before .before .before .before .before .before .before .find-interface in
+    let interface = c .before .before .before .before .before .interface in
+    (entry .pre .0 .sorted, (entry .pre .1 .0 .below, interface-at _ _ _ (entry .pre .0 .indexed .rows .laid) _ (find-interface .ensures) _ (interface .given .1) .below))
 
 enum-known-rule : tie.Need-enum-known-rule
 enum-known-rule c = search needs
 
 validate-interface-fields-requires : tie.Need-validate-interface-fields-requires
 validate-interface-fields-requires c κs =
-    let at-interface = c .before .before .before .before .before .before in
-    let at-find-interface = at-interface .before .before in
-    let entry = at-find-interface .before .before .before .before .before .before .before in
-    (entry .pre .0, (entry .pre .1 .1 .0, interface-at _ _ _ (entry .pre .0 .rows .laid) _ (at-find-interface .find-interface .ensures) _ (at-interface .interface .given .1) .below))
+    let entry = c .before .before .before .before .before .before .before .before .before .before .before .before .before .before .before .before .before in
+    let find-interface = c .before .before .before .before .before .before .before .before .find-interface in
+    let interface = c .before .before .before .before .before .before .interface in
+    (entry .pre .0, (entry .pre .1 .1 .0, interface-at _ _ _ (entry .pre .0 .indexed .rows .laid) _ (find-interface .ensures) _ (interface .given .1) .below))
 
 same-length : tie.Need-same-length
 same-length c = search needs
@@ -56,12 +57,13 @@ same-length c = search needs
 returns-2 : tie.Need-returns-2
 unfolding definedEdge definedRule
 returns-2 c =
-    let at-interface = c .before .before .before .before .before .before .before .before in
-    let at-find-interface = at-interface .before .before in
-    let at-edge-name = at-find-interface .before in
-    let entry = at-edge-name .before .before .before .before .before .before in
-    let m = interface-at _ _ _ (entry .pre .0 .rows .laid) _ (rw (at-edge-name .edge-name .ensures) at (at-find-interface .find-interface .ensures)) _ (at-interface .interface .given .1) in
-    (simp (m .there, ← m .row, c .before .before .before .before .enum-told2 .given .1) (c .before .before .validate-transitive-edges .ensures .0), omega (arith, c .before .before .validate-transitive-edges .ensures .1))
+    let entry = c .before .before .before .before .before .before .before .before .before .before .before .before .before .before .before .before .before .before .before in
+    let edge-name = c .before .before .before .before .before .before .before .before .before .before .before .edge-name in
+    let find-interface = c .before .before .before .before .before .before .before .before .before .before .find-interface in
+    let interface = c .before .before .before .before .before .before .before .before .interface in
+    let enum-told2 = c .before .before .before .before .enum-told2 in
+    let m = interface-at _ _ _ (entry .pre .0 .indexed .rows .laid) _ (rw (edge-name .ensures) at (find-interface .ensures)) _ (interface .given .1) in
+    (simp (m .there, ← m .row, enum-told2 .given .1) (rw (← entry .pre .1 .0 .all) at (c .before .before .validate-transitive-edges .ensures .0)), omega (arith, c .before .before .validate-transitive-edges .ensures .1))
 
 same-length-2 : tie.Need-same-length-2
 same-length-2 c = search needs
@@ -69,29 +71,13 @@ same-length-2 c = search needs
 returns-3 : tie.Need-returns-3
 unfolding definedEdge definedRule
 returns-3 c =
-    let at-interface = c .before .before .before .before .before .before .before .before .before in
-    let at-find-interface = at-interface .before .before in
-    let at-edge-name = at-find-interface .before in
-    let entry = at-edge-name .before .before .before .before .before .before in
-    let m = interface-at _ _ _ (entry .pre .0 .rows .laid) _ (rw (at-edge-name .edge-name .ensures) at (at-find-interface .find-interface .ensures)) _ (at-interface .interface .given .1) in
-    (simp (m .there, ← m .row, c .before .before .before .before .before .rule .given .1) (c .before .before .validate-interface-fields .ensures .0), c .before .before .validate-interface-fields .ensures .1)
+    let entry = c .before .before .before .before .before .before .before .before .before .before .before .before .before .before .before .before .before .before .before .before in
+    let edge-name = c .before .before .before .before .before .before .before .before .before .before .before .before .edge-name in
+    let find-interface = c .before .before .before .before .before .before .before .before .before .before .before .find-interface in
+    let interface = c .before .before .before .before .before .before .before .before .before .interface in
+    let rule = c .before .before .before .before .before .rule in
+    let m = interface-at _ _ _ (entry .pre .0 .indexed .rows .laid) _ (rw (edge-name .ensures) at (find-interface .ensures)) _ (interface .given .1) in
+    (simp (m .there, ← m .row, rule .given .1) (c .before .before .validate-interface-fields .ensures .0), c .before .before .validate-interface-fields .ensures .1)
 
 pub validate-defined-edge-spec : {M : Type 1} → statement M
-validate-defined-edge-spec =
-    tie.close
-    (tie.spec
-    edge-name-requires
-    find-interface-requires
-    enum-known-interface
-    enum-told
-    returns
-    add-edge
-    cast-edge
-    enum-told-2
-    validate-transitive-edges-requires
-    enum-known-rule
-    validate-interface-fields-requires
-    same-length
-    returns-2
-    same-length-2
-    returns-3)
+validate-defined-edge-spec = tie.close (tie.spec edge-name-requires find-interface-requires enum-known-interface enum-told returns add-edge cast-edge enum-told-2 validate-transitive-edges-requires enum-known-rule validate-interface-fields-requires same-length returns-2 same-length-2 returns-3)

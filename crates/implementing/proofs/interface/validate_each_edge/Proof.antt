@@ -1,7 +1,7 @@
 -- `validate_each_edge`: after i rows the output holds their records, and each turn writes one row's behind them.
 use borrow.Author.Needs.{needs}
 use native.Mathlib.Omega.{arith}
-use Rattle.implementing.specs.Bounds.{mostOfInterface}
+use Rattle.matching.specs.Bounds.{mostOfInterface}
 use Rattle.records.proofs.Records.{each-zero, each-more, emit-none, emit-seq}
 use Rattle.records.specs.Records.{Emitted, each}
 use Rattle.implementing.specs.Rules.{edgeRule, eachEdge}
@@ -12,10 +12,10 @@ use Rattle.implementing.proofs.interface.validate_each_edge.Statement.{
 use Rattle.implementing.proofs.interface.validate_each_edge.Tie as tie
 
 abbrev Inv-loop : tie.InvT-loop
-Inv-loop rule words l order own edges fields out₀ rows n₀ i₀ out n i = (i ≤ edgeRows edges) × (rows ≡ edgeRows edges) × (n ≤ mostOfInterface * i) × Emitted (each (edgeRule rule words own edges fields) i) out₀ out n
+Inv-loop rule words l index lists own edges fields cells out₀ rows n₀ i₀ out n i = (i ≤ edgeRows edges) × (rows ≡ edgeRows edges) × (n ≤ mostOfInterface * i) × Emitted (each (edgeRule rule words own edges fields) i) out₀ out n
 
 abbrev μ-loop : tie.MeasureT-loop
-μ-loop rule words l order own edges fields out₀ rows n₀ i₀ out n i = edgeRows edges - i
+μ-loop rule words l index lists own edges fields cells out₀ rows n₀ i₀ out n i = edgeRows edges - i
 
 edge-rows-requires : tie.Need-edge-rows-requires Inv-loop μ-loop
 edge-rows-requires c κs = search needs
@@ -40,7 +40,7 @@ part-validate-edge-end c = search needs
 
 validate-edge-requires : tie.Need-validate-edge-requires Inv-loop μ-loop
 validate-edge-requires c κs =
-    let entry = c .before .before .before .before .before .before .before .before .before .before in
+    let entry = c .before .before .before .before .before .before .before .before .before .before .before .before in
     (entry .pre .0, (entry .pre .1 .0, (entry .pre .1 .1, rw (c .before .before .before .loop .inv .1) at (c .before .before .loop-test .taken))))
 
 add-n : tie.Need-add-n Inv-loop μ-loop
@@ -54,8 +54,9 @@ loop-less c = search needs
 
 loop-again : tie.Need-loop-again Inv-loop μ-loop
 loop-again c =
-    let turn = c .before .before .before .before .before .before in
-    (search needs, turn .loop .inv .1, search needs, rw each-more (emit-seq _ _ _ _ _ _ _ _ (turn .loop .inv .3) (c .before .before .before .before .used .ensures) (c .before .before .validate-edge .ensures .0)))
+    let loop = c .before .before .before .before .before .before .loop in
+    let used = c .before .before .before .before .used in
+    (search needs, loop .inv .1, search needs, rw each-more (emit-seq _ _ _ _ _ _ _ _ (loop .inv .3) (used .ensures) (c .before .before .validate-edge .ensures .0)))
 
 same-length : tie.Need-same-length Inv-loop μ-loop
 same-length c = search needs
@@ -63,26 +64,8 @@ same-length c = search needs
 returns : tie.Need-returns Inv-loop μ-loop
 unfolding eachEdge
 returns c =
-    let entry = c .before .before .before .before .before .before .before .before in
+    let entry = c .before .before .before .before .before .before .before .before .before .before in
     let e : c .before .loop .i ≡ edgeRows (entry .args .edges .now) = omega arith in (rw e at (c .before .loop .inv .3), omega arith)
 
 pub validate-each-edge-spec : {M : Type 1} → statement M
-validate-each-edge-spec =
-    tie.close
-    (tie.spec
-    Inv-loop
-    μ-loop
-    edge-rows-requires
-    loop-holds
-    used-requires
-    mul-validate-edge
-    sub-validate-edge
-    part-validate-edge-start
-    part-validate-edge-end
-    validate-edge-requires
-    add-n
-    add-i
-    loop-less
-    loop-again
-    same-length
-    returns)
+validate-each-edge-spec = tie.close (tie.spec Inv-loop μ-loop edge-rows-requires loop-holds used-requires mul-validate-edge sub-validate-edge part-validate-edge-start part-validate-edge-end validate-edge-requires add-n add-i loop-less loop-again same-length returns)

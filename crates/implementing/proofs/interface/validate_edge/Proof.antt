@@ -22,24 +22,18 @@ same-length c = search needs
 
 returns : tie.Need-returns
 unfolding edgeRule
-returns c = (simp (c .before .before .before .before .enum-told .given .1) (c .before .before .validate-edge-defined .ensures .0), omega (arith, c .before .before .validate-edge-defined .ensures .1))
+returns c =
+    let enum-told = c .before .before .before .before .enum-told in
+    (simp (enum-told .given .1) (c .before .before .validate-edge-defined .ensures .0), omega (arith, c .before .before .validate-edge-defined .ensures .1))
 
 same-length-2 : tie.Need-same-length-2
 same-length-2 c = search needs
 
 returns-2 : tie.Need-returns-2
 unfolding edgeRule
-returns-2 c = (simp (c .before .before .before .before .before .rule .given .1) (c .before .before .validate-defined-edge .ensures .0), omega (arith, c .before .before .validate-defined-edge .ensures .1))
+returns-2 c =
+    let rule = c .before .before .before .before .before .rule in
+    (simp (rule .given .1) (c .before .before .validate-defined-edge .ensures .0), omega (arith, c .before .before .validate-defined-edge .ensures .1))
 
 pub validate-edge-spec : {M : Type 1} → statement M
-validate-edge-spec =
-    tie.close
-    (tie.spec
-    enum-told
-    validate-edge-defined-requires
-    enum-known-rule
-    validate-defined-edge-requires
-    same-length
-    returns
-    same-length-2
-    returns-2)
+validate-edge-spec = tie.close (tie.spec enum-told validate-edge-defined-requires enum-known-rule validate-defined-edge-requires same-length returns same-length-2 returns-2)

@@ -2,7 +2,8 @@
 use borrow.Author.Needs.{needs}
 use native.Mathlib.Omega.{arith}
 use Rattle.records.proofs.Records.{emit-seq}
-use Rattle.implementing.specs.Rules.{eachEdge, edgeRule, definedEdge, definedRule, eachField, fieldRule}
+use Rattle.matching.specs.Rules.{eachField, fieldRule}
+use Rattle.implementing.specs.Rules.{eachEdge, edgeRule, definedEdge, definedRule}
 use Rattle.implementing.specs.Interface.{implementedFields, definedEdges}
 use Rattle.implementing.proofs.interface.validate_implementation_fields.Statement.{statement}
 use Rattle.implementing.proofs.interface.validate_implementation_fields.Tie as tie
@@ -58,29 +59,11 @@ same-length c = search needs
 returns : tie.Need-returns
 unfolding implementedFields eachEdge edgeRule definedEdge definedRule eachField fieldRule definedEdges
 returns c =
-    let at-validate-each-edge2 = c .before .before .before .before .before .before .before in
-    let at-used = at-validate-each-edge2 .before .before in
-    let at-validate-each-edge = at-used .before .before .before in
-    (emit-seq _ _ _ _ _ _ _ _ (emit-seq _ _ _ _ _ _ _ _ (at-validate-each-edge .validate-each-edge .ensures .0) (at-used .used .ensures) (at-validate-each-edge2 .validate-each-edge2 .ensures .0)) (c .before .before .before .before .used2 .ensures) (c .before .before .validate-each-edge3 .ensures .0), omega (arith, at-validate-each-edge .validate-each-edge .ensures .1, at-validate-each-edge2 .validate-each-edge2 .ensures .1, c .before .before .validate-each-edge3 .ensures .1))
+    let validate-each-edge = c .before .before .before .before .before .before .before .before .before .before .before .before .validate-each-edge in
+    let used = c .before .before .before .before .before .before .before .before .before .used in
+    let validate-each-edge2 = c .before .before .before .before .before .before .before .validate-each-edge2 in
+    let used2 = c .before .before .before .before .used2 in
+    (emit-seq _ _ _ _ _ _ _ _ (emit-seq _ _ _ _ _ _ _ _ (validate-each-edge .ensures .0) (used .ensures) (validate-each-edge2 .ensures .0)) (used2 .ensures) (c .before .before .validate-each-edge3 .ensures .0), omega (arith, validate-each-edge .ensures .1, validate-each-edge2 .ensures .1, c .before .before .validate-each-edge3 .ensures .1))
 
 pub validate-implementation-fields-spec : {M : Type 1} → statement M
-validate-implementation-fields-spec =
-    tie.close
-    (tie.spec
-    validate-each-edge-requires
-    used-requires
-    mul-validate-each-edge
-    sub-validate-each-edge
-    part-validate-each-edge-start
-    part-validate-each-edge-end
-    validate-each-edge-requires-2
-    add-m
-    used-requires-2
-    mul-validate-each-edge-2
-    sub-validate-each-edge-2
-    part-validate-each-edge-start-2
-    part-validate-each-edge-end-2
-    validate-each-edge-requires-3
-    add-result
-    same-length
-    returns)
+validate-implementation-fields-spec = tie.close (tie.spec validate-each-edge-requires used-requires mul-validate-each-edge sub-validate-each-edge part-validate-each-edge-start part-validate-each-edge-end validate-each-edge-requires-2 add-m used-requires-2 mul-validate-each-edge-2 sub-validate-each-edge-2 part-validate-each-edge-start-2 part-validate-each-edge-end-2 validate-each-edge-requires-3 add-result same-length returns)

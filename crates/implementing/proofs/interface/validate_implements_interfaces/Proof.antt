@@ -39,20 +39,9 @@ same-length c = search needs
 returns : tie.Need-returns
 unfolding implementsRecords eachEdge edgeRule definedEdge definedRule definedEdges
 returns c =
-    let at-validate-each-edge = c .before .before .before .before .before .before .before in
-    (emit-seq _ _ _ _ _ _ _ _ (at-validate-each-edge .validate-each-edge .ensures .0) (c .before .before .before .before .used .ensures) (c .before .before .validate-each-edge2 .ensures .0), omega (arith, at-validate-each-edge .validate-each-edge .ensures .1, c .before .before .validate-each-edge2 .ensures .1))
+    let validate-each-edge = c .before .before .before .before .before .before .before .validate-each-edge in
+    let used = c .before .before .before .before .used in
+    (emit-seq _ _ _ _ _ _ _ _ (validate-each-edge .ensures .0) (used .ensures) (c .before .before .validate-each-edge2 .ensures .0), omega (arith, validate-each-edge .ensures .1, c .before .before .validate-each-edge2 .ensures .1))
 
 pub validate-implements-interfaces-spec : {M : Type 1} → statement M
-validate-implements-interfaces-spec =
-    tie.close
-    (tie.spec
-    validate-each-edge-requires
-    used-requires
-    mul-validate-each-edge
-    sub-validate-each-edge
-    part-validate-each-edge-start
-    part-validate-each-edge-end
-    validate-each-edge-requires-2
-    add-result
-    same-length
-    returns)
+validate-implements-interfaces-spec = tie.close (tie.spec validate-each-edge-requires used-requires mul-validate-each-edge sub-validate-each-edge part-validate-each-edge-start part-validate-each-edge-end validate-each-edge-requires-2 add-result same-length returns)

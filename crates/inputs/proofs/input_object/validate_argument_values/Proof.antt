@@ -11,10 +11,10 @@ use Rattle.inputs.proofs.input_object.validate_argument_values.Statemen
 use Rattle.inputs.proofs.input_object.validate_argument_values.Tie as tie
 
 abbrev Inv-loop : tie.InvT-loop
-Inv-loop text words l order t first arguments out₀ rows n₀ i₀ out n i = (i ≤ argumentRows arguments) × (rows ≡ argumentRows arguments) × (n ≤ 2 * i) × Emitted (each (argumentRecord text words (t .0) first arguments) i) out₀ out n
+Inv-loop text words l index t first arguments out₀ rows n₀ i₀ out n i = (i ≤ argumentRows arguments) × (rows ≡ argumentRows arguments) × (n ≤ 2 * i) × Emitted (each (argumentRecord text words (t .0) first arguments) i) out₀ out n
 
 abbrev μ-loop : tie.MeasureT-loop
-μ-loop text words l order t first arguments out₀ rows n₀ i₀ out n i = argumentRows arguments - i
+μ-loop text words l index t first arguments out₀ rows n₀ i₀ out n i = argumentRows arguments - i
 
 argument-rows-requires : tie.Need-argument-rows-requires Inv-loop μ-loop
 argument-rows-requires c κs = search needs

@@ -11,10 +11,10 @@ use Rattle.inputs.proofs.input_object.validate_input_values.Statement.{
 use Rattle.inputs.proofs.input_object.validate_input_values.Tie as tie
 
 abbrev Inv-loop : tie.InvT-loop
-Inv-loop text words l order t first fields out₀ rows n₀ i₀ out n i = (i ≤ fieldRows fields) × (rows ≡ fieldRows fields) × (n ≤ 2 * i) × Emitted (each (inputFieldRecord text words (t .0) first fields) i) out₀ out n
+Inv-loop text words l index t first fields out₀ rows n₀ i₀ out n i = (i ≤ fieldRows fields) × (rows ≡ fieldRows fields) × (n ≤ 2 * i) × Emitted (each (inputFieldRecord text words (t .0) first fields) i) out₀ out n
 
 abbrev μ-loop : tie.MeasureT-loop
-μ-loop text words l order t first fields out₀ rows n₀ i₀ out n i = fieldRows fields - i
+μ-loop text words l index t first fields out₀ rows n₀ i₀ out n i = fieldRows fields - i
 
 field-rows-requires : tie.Need-field-rows-requires Inv-loop μ-loop
 field-rows-requires c κs = search needs

@@ -14,8 +14,8 @@ use Rattle.inputs.proofs.input_object.validate_unique_argument.Tie as t
 argument-name-requires : tie.Need-argument-name-requires
 argument-name-requires c κs = search needs
 
-find-argument-requires : tie.Need-find-argument-requires
-find-argument-requires c κs = search needs
+look-up-argument-requires : tie.Need-look-up-argument-requires
+look-up-argument-requires c κs = search needs
 
 enum-known-j : tie.Need-enum-known-j
 enum-known-j c = search needs
@@ -26,8 +26,8 @@ enum-told c = search needs
 returns : tie.Need-returns
 unfolding repeatRecord
 returns c =
-    let entry = c .before .before .before .before .before .before in
-    let h = rw (c .before .before .before .argument-name .ensures) at (no-row _ _ (sym (c .before .before .find-argument .ensures) ∙ c .enum-told .given .1)) in
+    let entry = c .before .before .before .before .before .before .before in
+    let h = rw (c .before .before .before .argument-name .ensures) at (no-row _ _ (sym (c .before .before .look-up-argument .ensures) ∙ c .enum-told .given .1)) in
     let k : entry .args .i ≤ argumentNamed (entry .args .arguments .now) (argumentNameIn (entry .args .arguments .now) (entry .args .i)) = omega arith in
     (simp (le-ltb _ _ k) (emit-none _), omega arith)
 
@@ -55,32 +55,20 @@ same-length c = search needs
 returns-2 : tie.Need-returns-2
 unfolding repeatRecord
 returns-2 c =
-    let at-j = c .before .before .before .before .before .before .before in
-    let at-find-argument = at-j .before .before in
-    let at-argument-name = at-find-argument .before in
-    let e = rw (at-argument-name .argument-name .ensures) at (row-found _ _ _ (sym (at-find-argument .find-argument .ensures) ∙ at-j .j .given .1)) in
-    (simp (← e, lt-ltb _ _ (c .before .before .before .before .before .if1 .taken), ← c .before .before .before .unique-input-value .ensures) (c .before .before .put .ensures .0), c .before .before .put .ensures .1)
+    let argument-name = c .before .before .before .before .before .before .before .before .before .before .argument-name in
+    let look-up-argument = c .before .before .before .before .before .before .before .before .before .look-up-argument in
+    let j = c .before .before .before .before .before .before .before .j in
+    let if1 = c .before .before .before .before .before .if1 in
+    let e = rw (argument-name .ensures) at (row-found _ _ _ (sym (look-up-argument .ensures) ∙ j .given .1)) in
+    (simp (← e, lt-ltb _ _ (if1 .taken), ← c .before .before .before .unique-input-value .ensures) (c .before .before .put .ensures .0), c .before .before .put .ensures .1)
 
 returns-3 : tie.Need-returns-3
 unfolding repeatRecord
-returns-3 c = let e = rw (c .before .before .before .before .before .argument-name .ensures) at (row-found _ _ _ (sym (c .before .before .before .before .find-argument .ensures) ∙ c .before .before .j .given .1)) in
+returns-3 c =
+    let argument-name = c .before .before .before .before .before .argument-name in
+    let look-up-argument = c .before .before .before .before .look-up-argument in
+    let e = rw (argument-name .ensures) at (row-found _ _ _ (sym (look-up-argument .ensures) ∙ c .before .before .j .given .1)) in
     (simp (← e, le-ltb _ _ (c .if1 .left)) (emit-none _), omega arith)
 
 pub validate-unique-argument-spec : {M : Type 1} → statement M
-validate-unique-argument-spec =
-    tie.close
-    (tie.spec
-    argument-name-requires
-    find-argument-requires
-    enum-known-j
-    enum-told
-    returns
-    add-unique-input-value
-    cast-unique-input-value
-    add-unique-input-value-2
-    cast-unique-input-value-2
-    unique-input-value-requires
-    put-requires
-    same-length
-    returns-2
-    returns-3)
+validate-unique-argument-spec = tie.close (tie.spec argument-name-requires look-up-argument-requires enum-known-j enum-told returns add-unique-input-value cast-unique-input-value add-unique-input-value-2 cast-unique-input-value-2 unique-input-value-requires put-requires same-length returns-2 returns-3)

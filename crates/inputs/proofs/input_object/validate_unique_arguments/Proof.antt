@@ -1,82 +1,48 @@
--- `validate_unique_arguments`: after i rows the output holds their records, and each turn writes one row's behind them.
+-- The cells tell the arguments, or there are none: either helps.
 use borrow.Author.Needs.{needs}
-use native.Mathlib.Omega.{arith}
-use Rattle.records.proofs.Records.{each-zero, each-more, emit-none, emit-seq}
-use Rattle.records.specs.Records.{Emitted, each}
-use mathlib.Core.Path.{_≡_}
-use Prim.Native.Nat.{_≤_, _-_, _*_}
-use Rattle.rows.specs.Parts.{argumentRows}
-use Rattle.inputs.specs.InputObject.{repeatRecord}
+use mathlib.Core.Path.{refl}
+use Rattle.lookup.proofs.CellLaws.{told-helps, none-helps}
 use Rattle.inputs.proofs.input_object.validate_unique_arguments.Statement.{statement}
 use Rattle.inputs.proofs.input_object.validate_unique_arguments.Tie as tie
 
-abbrev Inv-loop : tie.InvT-loop
-Inv-loop t first arguments out₀ rows n₀ i₀ out n i = (i ≤ argumentRows arguments) × (rows ≡ argumentRows arguments) × (n ≤ 1 * i) × Emitted (each (repeatRecord (t .0) first arguments) i) out₀ out n
+has-few-requires : tie.Need-has-few-requires
+has-few-requires c κs = search needs
 
-abbrev μ-loop : tie.MeasureT-loop
-μ-loop t first arguments out₀ rows n₀ i₀ out n i = argumentRows arguments - i
+slice-aggregate-validate-each-unique-argument : tie.Need-slice-aggregate-validate-each-unique-argument
+slice-aggregate-validate-each-unique-argument c = search needs
 
-argument-rows-requires : tie.Need-argument-rows-requires Inv-loop μ-loop
-argument-rows-requires c κs = search needs
+validate-each-unique-argument-requires : tie.Need-validate-each-unique-argument-requires
+validate-each-unique-argument-requires c κs =
+    let entry = c .before .before .before .before .before .before in
+    (entry .pre .0, none-helps _ _)
 
-loop-holds : tie.Need-loop-holds Inv-loop μ-loop
-loop-holds c = (omega arith, c .argument-rows .ensures, omega arith, rw each-zero (emit-none _))
-
-used-requires : tie.Need-used-requires Inv-loop μ-loop
-used-requires c κs = search needs
-
-mul-validate-unique-argument : tie.Need-mul-validate-unique-argument Inv-loop μ-loop
-mul-validate-unique-argument c = search needs
-
-sub-validate-unique-argument : tie.Need-sub-validate-unique-argument Inv-loop μ-loop
-sub-validate-unique-argument c = search needs
-
-part-validate-unique-argument-start : tie.Need-part-validate-unique-argument-start Inv-loop μ-loop
-part-validate-unique-argument-start c = search needs
-
-part-validate-unique-argument-end : tie.Need-part-validate-unique-argument-end Inv-loop μ-loop
-part-validate-unique-argument-end c = search needs
-
-validate-unique-argument-requires : tie.Need-validate-unique-argument-requires Inv-loop μ-loop
-validate-unique-argument-requires c κs = search needs
-
-add-n : tie.Need-add-n Inv-loop μ-loop
-add-n c = search needs
-
-add-i : tie.Need-add-i Inv-loop μ-loop
-add-i c = search needs
-
-loop-less : tie.Need-loop-less Inv-loop μ-loop
-loop-less c = search needs
-
-loop-again : tie.Need-loop-again Inv-loop μ-loop
-loop-again c =
-    let turn = c .before .before .before .before .before .before in
-    (search needs, turn .loop .inv .1, search needs, rw each-more (emit-seq _ _ _ _ _ _ _ _ (turn .loop .inv .3) (c .before .before .before .before .used .ensures) (c .before .before .validate-unique-argument .ensures .0)))
-
-same-length : tie.Need-same-length Inv-loop μ-loop
+same-length : tie.Need-same-length
 same-length c = search needs
 
-returns : tie.Need-returns Inv-loop μ-loop
-returns c = let e : c .before .loop .i ≡ argumentRows (c .before .before .before .before .before .args .arguments .now) = omega arith in (rw e at (c .before .loop .inv .3), omega arith)
+returns : tie.Need-returns
+returns c = search needs
+
+slice-aggregate-index-arguments : tie.Need-slice-aggregate-index-arguments
+slice-aggregate-index-arguments c = search needs
+
+index-arguments-requires : tie.Need-index-arguments-requires
+index-arguments-requires c κs =
+    let entry = c .before .before .before .before .before in
+    (entry .pre .1, refl)
+
+slice-aggregate-validate-each-unique-argument-2 : tie.Need-slice-aggregate-validate-each-unique-argument-2
+slice-aggregate-validate-each-unique-argument-2 c = search needs
+
+validate-each-unique-argument-requires-2 : tie.Need-validate-each-unique-argument-requires-2
+validate-each-unique-argument-requires-2 c κs =
+    let entry = c .before .before .before .before .before .before .before .before .before in
+    (entry .pre .0, told-helps _ (c .before .before .before .index-arguments .ensures))
+
+same-length-2 : tie.Need-same-length-2
+same-length-2 c = search needs
+
+returns-2 : tie.Need-returns-2
+returns-2 c = search needs
 
 pub validate-unique-arguments-spec : {M : Type 1} → statement M
-validate-unique-arguments-spec =
-    tie.close
-    (tie.spec
-    Inv-loop
-    μ-loop
-    argument-rows-requires
-    loop-holds
-    used-requires
-    mul-validate-unique-argument
-    sub-validate-unique-argument
-    part-validate-unique-argument-start
-    part-validate-unique-argument-end
-    validate-unique-argument-requires
-    add-n
-    add-i
-    loop-less
-    loop-again
-    same-length
-    returns)
+validate-unique-arguments-spec = tie.close (tie.spec has-few-requires slice-aggregate-validate-each-unique-argument validate-each-unique-argument-requires same-length returns slice-aggregate-index-arguments index-arguments-requires slice-aggregate-validate-each-unique-argument-2 validate-each-unique-argument-requires-2 same-length-2 returns-2)

@@ -4,7 +4,6 @@ use mathlib.Core.Bool.{and-true}
 use mathlib.Core.Path.{refl, sym, _∙_}
 use Rattle.names.proofs.BoolLaws.{passes, fails}
 use Rattle.evidence.specs.Rules.{rule6}
-use Rattle.evidence.proofs.ChainLaws.{chained}
 use Rattle.judge.proofs.rule.rule6.Statement.{statement}
 use Rattle.judge.proofs.rule.rule6.Tie as tie
 
@@ -25,8 +24,7 @@ returns-3 c =
     let marked-call = c .before .before .before .before .before .marked in
     let if1 = c .before .before .before .before .if1 in
     let leads-call = c .before .before .before .leads in
-    let pre = c .before .before .before .before .before .before .before .before .pre in
-    rw (passes (marked-call .ensures) (if1 .left), sym (leads-call .ensures) ∙ c .before .before .if2 .left, ← c .before .in-field .ensures .0) (rw (chained pre .types) at (c .some-comes-in .ensures))
+    rw (passes (marked-call .ensures) (if1 .left), sym (leads-call .ensures) ∙ c .before .before .if2 .left, ← c .before .in-field .ensures .0) (c .some-comes-in .ensures)
 
 pub rule6-spec : {M : Type 1} → statement M
 rule6-spec =

@@ -8,26 +8,26 @@ use Rattle.names.specs.Count.{every}
 use Rattle.names.proofs.CountLaws.{every-at, every-intro, every-none, every-more, every-fails}
 use Rattle.names.proofs.BoolLaws.{passes, fails}
 use Rattle.table.specs.Layout.{fieldsStart}
-use Rattle.chains.specs.Fields.{chainGraph}
+use Rattle.links.specs.Fields.{chainGraph}
 use Rattle.evidence.specs.Rules.{falls, rule7}
 use Rattle.evidence.proofs.ChainLaws.{chained}
 use Rattle.judge.proofs.rule.rule7.Statement.{statement}
 use Rattle.judge.proofs.rule.rule7.Tie as tie
 
 abbrev Inv-loop : tie.InvT-loop
-Inv-loop words l ev t end f₀ f = (fieldsStart words (t .0) ≤ f) × (every (falls (chainGraph words) ev (t .0)) (fieldsStart words (t .0)) f ≡ true)
+Inv-loop words targets ev t end f₀ f = (fieldsStart words (t .0) ≤ f) × (every (falls (chainGraph words) ev (t .0)) (fieldsStart words (t .0)) f ≡ true)
 
 abbrev μ-loop : tie.MeasureT-loop
-μ-loop words l ev t end f₀ f = end - f
+μ-loop words targets ev t end f₀ f = end - f
 
 loop-holds : tie.Need-loop-holds Inv-loop μ-loop
-loop-holds c = (omega arith, rw (c .fields-start .ensures) (every-none _ _))
+loop-holds c = (omega arith, rw (c .chains-start .ensures) (every-none _ _))
 
 falls-requires : tie.Need-falls-requires Inv-loop μ-loop
 falls-requires c κs =
-    let pre = c .before .before .before .before .before .before .pre in
-    let args = c .before .before .before .before .before .before .args in
-    (pre .0, omega (arith, chained (pre .0) .inside (args .t .0) (pre .1)))
+    let pre = c .before .before .before .before .before .before .before .pre in
+    let args = c .before .before .before .before .before .before .before .args in
+    (pre .0, omega (arith, chained (pre .0 .rows) .inside (args .t .0) (pre .1)))
 
 returns : tie.Need-returns Inv-loop μ-loop
 unfolding rule7
@@ -51,7 +51,7 @@ rule7-spec =
     Inv-loop
     μ-loop
     (λ c κs. search needs)  -- chains-end-requires
-    (λ c κs. search needs)  -- fields-start-requires
+    (λ c κs. search needs)  -- chains-start-requires
     loop-holds
     falls-requires
     returns

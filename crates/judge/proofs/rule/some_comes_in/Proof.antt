@@ -4,40 +4,35 @@ use native.Mathlib.Omega.{arith}
 use mathlib.Core.Bool.{false}
 use mathlib.Core.Path.{_≡_, refl, sym, _∙_}
 use Prim.Native.Nat.{_≤_, _-_}
-use Rattle.order.proofs.OrderLaws.{helps-none}
-use Rattle.chains.specs.Fields.{chainGraph}
+use Rattle.table.specs.Layout.{typeCount}
+use Rattle.links.specs.Fields.{chainGraph}
 use Rattle.evidence.specs.Rules.{any, comesIn}
 use Rattle.evidence.proofs.TestLaws.{any-of, any-none, any-more}
 use Rattle.judge.proofs.rule.some_comes_in.Statement.{statement}
 use Rattle.judge.proofs.rule.some_comes_in.Tie as tie
 
 abbrev Inv-loop : tie.InvT-loop
-Inv-loop words l ev t f s₀ s = (s ≤ l .types) × (any (comesIn (chainGraph words) ev (t .0) f) s ≡ false)
+Inv-loop words targets ev t f types s₀ s = (types ≡ typeCount words) × (s ≤ typeCount words) × (any (comesIn (chainGraph words) ev (t .0) f) s ≡ false)
 
 abbrev μ-loop : tie.MeasureT-loop
-μ-loop words l ev t f s₀ s = l .types - s
+μ-loop words targets ev t f types s₀ s = typeCount words - s
 
 loop-holds : tie.Need-loop-holds Inv-loop μ-loop
-loop-holds c = (search needs, any-none _)
+loop-holds c = (c .types-in .ensures, omega arith, any-none _)
 
 comes-in-requires : tie.Need-comes-in-requires Inv-loop μ-loop
-comes-in-requires c κs =
-    let pre = c .before .before .before .before .before .before .pre in
-    (record { rows = pre; helps = helps-none _ _ _ refl }, c .before .if1 .taken)
+comes-in-requires c κs = (c .before .before .before .before .before .before .pre, omega (arith, c .loop-test .taken, c .before .loop .inv .0))
 
 returns : tie.Need-returns Inv-loop μ-loop
-returns c = sym (any-of _ _ _ (c .before .before .before .if1 .taken) (sym (c .before .comes-in .ensures) ∙ c .if2 .taken))
+returns c = sym (any-of _ _ _ (omega (arith, c .before .before .loop-test .taken, c .before .before .before .loop .inv .0)) (sym (c .before .comes-in .ensures) ∙ c .if1 .taken))
 
 loop-again : tie.Need-loop-again Inv-loop μ-loop
-loop-again c =
-    let loop = c .before .before .before .before .before .loop in
-    (search needs, any-more _ _ (loop .inv .1) (sym (c .before .comes-in .ensures) ∙ c .if2 .left))
+loop-again c = (c .before .before .before .loop .inv .0, omega (arith, c .before .before .loop-test .taken, c .before .before .before .loop .inv .0), any-more _ _ (c .before .before .before .loop .inv .2) (sym (c .before .comes-in .ensures) ∙ c .if1 .left))
 
 returns-2 : tie.Need-returns-2 Inv-loop μ-loop
 returns-2 c =
-    let args = c .before .before .before .before .before .args in
-    let e : c .before .before .loop .s ≡ args .l .types = omega arith in
-    sym (rw e at (c .before .before .loop .inv .1))
+    let e : c .before .loop .s ≡ typeCount (c .before .before .before .before .before .before .args .words .now) = omega (arith, c .loop-test .left, c .before .loop .inv .0, c .before .loop .inv .1) in
+    sym (rw e at (c .before .loop .inv .2))
 
 pub some-comes-in-spec : {M : Type 1} → statement M
 some-comes-in-spec =
@@ -45,8 +40,8 @@ some-comes-in-spec =
     (tie.spec
     Inv-loop
     μ-loop
+    (λ c κs. search needs)  -- types-in-requires
     loop-holds
-    (λ c. search needs)  -- slice-aggregate-comes-in
     (λ c. search needs)  -- cast-t11
     comes-in-requires
     returns

@@ -1,35 +1,34 @@
--- The count of the first search is that of the second, and work words come back as they were.
+-- `write_cycle`: what the fields lead to is looked up, and the cycle is found by it.
 use borrow.Author.Needs.{needs}
-use mathlib.Core.Path.{_∙_}
-use Rattle.lhakvuni.proofs.OutputLaws.{cycle-short, cycle-done}
+use native.Mathlib.Omega.{arith}
+use Rattle.rows.proofs.PartLaws.{type-count}
+use Rattle.links.proofs.LinkLaws.{linked}
 use Rattle.lhakvuni.proofs.calls.write_cycle.Statement.{statement}
 use Rattle.lhakvuni.proofs.calls.write_cycle.Tie as tie
 
+slice-aggregate-link : tie.Need-slice-aggregate-link
+slice-aggregate-link c = search needs
+
+link-requires : tie.Need-link-requires
+link-requires c κs = search needs
+
+slice-aggregate-put-cycle : tie.Need-slice-aggregate-put-cycle
+slice-aggregate-put-cycle c = search needs
+
+put-cycle-requires : tie.Need-put-cycle-requires
+put-cycle-requires c κs =
+    let entry = c .before .before .before .before .before .before .before .before .before in
+    let link = c .before .before .before .before .link in
+    (linked (entry .pre .0) (link .ensures), (omega (arith, entry .pre .1 .0, type-count _ _ (entry .pre .0 .laid)), entry .pre .1 .1))
+
+same-length : tie.Need-same-length
+same-length c = search needs
+
+same-length-2 : tie.Need-same-length-2
+same-length-2 c = search needs
+
 returns : tie.Need-returns
-returns c =
-    (cycle-short _ _ _ _ (c .before .before .before .count-cycle .ensures .0) (c .if1 .taken), c .before .before .before .count-cycle .ensures .1 .1)
-
-first-cycle-requires : tie.Need-first-cycle-requires
-first-cycle-requires c κs =
-    let count-cycle = c .before .before .before .before .before .count-cycle in
-    let entry = c .before .before .before .before .before .before .before .before .before .before in
-    (rw (count-cycle .ensures .1 .1) (entry .pre .0), (entry .pre .1 .0, rw (count-cycle .ensures .1 .1) (entry .pre .1 .1)))
-
-returns-2 : tie.Need-returns-2
-returns-2 c =
-    let count-cycle = c .before .before .before .before .before .before .before .before .before .before .count-cycle in
-    let if1 = c .before .before .before .before .before .before .before .if1 in
-    let first-cycle = c .before .before .before .before .first-cycle in
-    (cycle-done _ _ _ _ (count-cycle .ensures .0) _ _ (if1 .left) (first-cycle .ensures .0), first-cycle .ensures .1 .1 ∙ count-cycle .ensures .1 .1)
+returns c = search needs
 
 pub write-cycle-spec : {M : Type 1} → statement M
-write-cycle-spec =
-    tie.close
-    (tie.spec
-    (λ c κs. search needs)  -- count-cycle-requires
-    (λ c. search needs)  -- same-length
-    returns
-    first-cycle-requires
-    (λ c. search needs)  -- same-length-2
-    (λ c. search needs)  -- same-length-3
-    returns-2)
+write-cycle-spec = tie.close (tie.spec slice-aggregate-link link-requires slice-aggregate-put-cycle put-cycle-requires same-length same-length-2 returns)

@@ -3,7 +3,6 @@ use borrow.Author.Needs.{needs}
 use mathlib.Core.Path.{refl}
 use native.Mathlib.Omega.{arith}
 use Rattle.wellformed.proofs.AnswerLaws.{verdict-sound}
-use Rattle.order.proofs.OrderLaws.{sound-apart}
 use Rattle.lhakvuni.proofs.NumberLaws.{header-there, sound-by}
 use Rattle.lhakvuni.proofs.EvidenceLaws.{make-table, make-work, make-short, make-rooms, make-given}
 use Rattle.lhakvuni.proofs.making.make_evidence.Statement.{statement}
@@ -39,7 +38,7 @@ make-evidence-requires c κs =
     let check-table = c .before .before .before .before .before .before .before .before .check-table in
     let enum-told = c .before .before .before .before .before .before .enum-told in
     let layout-of = c .before .before .before .before .before .layout-of in
-    (sound-by (verdict-sound _ _ _ (check-table .ensures .0) (enum-told .given .1)) (layout-of .ensures .0), (make-rooms _ _ _ (check-table .ensures .0) (enum-told .given .1) _ (layout-of .ensures .0) _ _ (c .before .before .before .if1 .left) (c .before .before .if2 .left), sound-apart (verdict-sound _ _ _ (check-table .ensures .0) (enum-told .given .1))))
+    (sound-by (verdict-sound _ _ _ (check-table .ensures .0) (enum-told .given .1)) (layout-of .ensures .0), make-rooms _ _ _ (check-table .ensures .0) (enum-told .given .1) _ (layout-of .ensures .0) _ _ (c .before .before .before .if1 .left) (c .before .before .if2 .left))
 
 returns-4 : tie.Need-returns-4
 returns-4 c =

@@ -12,10 +12,10 @@ use Rattle.rules.proofs.field.validate_field_definitions.Statement.{sta
 use Rattle.rules.proofs.field.validate_field_definitions.Tie as tie
 
 abbrev Inv-loop : tie.InvT-loop
-Inv-loop text words l order t first fields out₀ rows n₀ i₀ out n i = (i ≤ fieldRows fields) × (rows ≡ fieldRows fields) × (n ≤ mostOfField * i) × Emitted (each (fieldRecord text words (t .0) first fields) i) out₀ out n
+Inv-loop text words l index t first fields out₀ rows n₀ i₀ out n i = (i ≤ fieldRows fields) × (rows ≡ fieldRows fields) × (n ≤ mostOfField * i) × Emitted (each (fieldRecord text words (t .0) first fields) i) out₀ out n
 
 abbrev μ-loop : tie.MeasureT-loop
-μ-loop text words l order t first fields out₀ rows n₀ i₀ out n i = fieldRows fields - i
+μ-loop text words l index t first fields out₀ rows n₀ i₀ out n i = fieldRows fields - i
 
 field-rows-requires : tie.Need-field-rows-requires Inv-loop μ-loop
 field-rows-requires c κs = search needs

@@ -14,8 +14,8 @@ type-name-requires c κs = search needs
 
 validate-type-system-name-requires : tie.Need-validate-type-system-name-requires
 validate-type-system-name-requires c κs =
-    let entry = c .before .before .before .before .before .before .before in
-    (entry .pre .0 .readable, rw (c .before .type-name .ensures) (type-name-below _ _ (entry .pre .0 .readable .sound) _ (entry .pre .1)))
+    let entry = c .before .before .before .before .before .before .before .before in
+    (entry .pre .0 .legible .readable, rw (c .before .type-name .ensures) (type-name-below _ _ (entry .pre .0 .legible .readable .sound) _ (entry .pre .1)))
 
 used-requires : tie.Need-used-requires
 used-requires c κs = search needs
@@ -34,7 +34,7 @@ part-validate-kind-end c = search needs
 
 validate-kind-requires : tie.Need-validate-kind-requires
 validate-kind-requires c κs =
-    let entry = c .before .before .before .before .before .before .before .before .before .before .before .before in
+    let entry = c .before .before .before .before .before .before .before .before .before .before .before .before .before in
     (entry .pre .0, search needs)
 
 add-result : tie.Need-add-result

@@ -12,10 +12,10 @@ use Rattle.validation.proofs.validate.validate_types.Statement.{stateme
 use Rattle.validation.proofs.validate.validate_types.Tie as tie
 
 abbrev Inv-loop : tie.InvT-loop
-Inv-loop text words l order cycles out₀ types n₀ t₀ out n t = (t ≤ l .types) × (types ≡ l .types) × (n ≤ mostOfType * t) × Emitted (each (typeRecords text words (countsOf cycles)) t) out₀ out n
+Inv-loop text words l index lists cycles out₀ types n₀ t₀ out n t = (t ≤ l .types) × (types ≡ l .types) × (n ≤ mostOfType * t) × Emitted (each (typeRecords text words (countsOf cycles)) t) out₀ out n
 
 abbrev μ-loop : tie.MeasureT-loop
-μ-loop text words l order cycles out₀ types n₀ t₀ out n t = l .types - t
+μ-loop text words l index lists cycles out₀ types n₀ t₀ out n t = l .types - t
 
 loop-holds : tie.Need-loop-holds Inv-loop μ-loop
 loop-holds c = (omega arith, refl, omega arith, rw each-zero (emit-none _))
@@ -23,8 +23,8 @@ loop-holds c = (omega arith, refl, omega arith, rw each-zero (emit-none _))
 used-requires : tie.Need-used-requires Inv-loop μ-loop
 used-requires c κs = search needs
 
-cast-t13 : tie.Need-cast-t13 Inv-loop μ-loop
-cast-t13 c = search needs
+cast-t14 : tie.Need-cast-t14 Inv-loop μ-loop
+cast-t14 c = search needs
 
 mul-validate-type : tie.Need-mul-validate-type Inv-loop μ-loop
 mul-validate-type c = search needs
@@ -67,8 +67,8 @@ same-length c = search needs
 
 returns : tie.Need-returns Inv-loop μ-loop
 returns c =
-    let entry = c .before .before .before .before .before .before .before in
-    let e : c .before .loop .t ≡ entry .args .l .types = omega arith in (rw (e, type-count _ _ (entry .pre .0 .readable .sound .laid)) at (c .before .loop .inv .3), omega (arith, entry .pre .0 .readable .sound .laid .types-most))
+    let entry = c .before .before .before .before .before .before .before .before in
+    let e : c .before .loop .t ≡ entry .args .l .types = omega arith in (rw (e, type-count _ _ (entry .pre .0 .legible .readable .sound .laid)) at (c .before .loop .inv .3), omega (arith, entry .pre .0 .legible .readable .sound .laid .types-most))
 
 pub validate-types-spec : {M : Type 1} → statement M
 validate-types-spec =
@@ -78,7 +78,7 @@ validate-types-spec =
     μ-loop
     loop-holds
     used-requires
-    cast-t13
+    cast-t14
     mul-validate-type
     shared-slice-read-validate-type
     mul-validate-type-2

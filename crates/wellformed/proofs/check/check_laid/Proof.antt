@@ -1,7 +1,6 @@
 -- The tests of refusals 4 to 6 come in their order, and the first that fails gives its number.
 use Rattle.names.proofs.BoolLaws.{passes, fails}
 use native.Mathlib.Omega.{arith}
-use Rattle.wellformed.proofs.EndLaws.{rows-ends}
 use Rattle.wellformed.specs.WellFormed.{refusalLaid}
 use borrow.Author.Needs.{needs}
 use Rattle.wellformed.proofs.check.check_laid.Statement.{statement}
@@ -24,7 +23,7 @@ returns-2 c = (simp (passes (c .before .before .before .names-right .ensures) (c
 names-distinct-requires : tie.Need-names-distinct-requires
 names-distinct-requires c κs =
     let entry = c .before .before .before .before .before .before in
-    (entry .pre, rows-ends _ _ (passes (c .before .rows-good .ensures) (c .if2 .left)))
+    (entry .pre .0, passes (c .before .rows-good .ensures) (c .if2 .left))
 
 returns-3 : tie.Need-returns-3
 unfolding refusalLaid

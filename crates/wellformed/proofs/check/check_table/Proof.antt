@@ -2,7 +2,7 @@
 use Rattle.names.proofs.BoolLaws.{passes, fails}
 use native.Mathlib.Omega.{arith}
 use borrow.Author.Tests.{lt-leb, le-leb}
-use Rattle.wellformed.proofs.LimitLaws.{laid}
+use Rattle.wellformed.proofs.LimitLaws.{limits, laid}
 use Rattle.wellformed.specs.WellFormed.{inLimits, rightLength, refusal}
 use Rattle.table.specs.Layout.{layoutOf}
 use mathlib.Core.Path.{_≡_}
@@ -48,7 +48,8 @@ returns-3 c =
 check-laid-requires : tie.Need-check-laid-requires
 check-laid-requires c κs =
     let layout-of = c .before .before .before .before .layout-of in
-    rw (layout-of .ensures .0) (laid _ _ (limits-kept (c .before .before)) (length-kept c))
+    let kept = limits-kept (c .before .before) in
+    (rw (layout-of .ensures .0) (laid _ _ kept (length-kept c)), limits _ _ kept .bytes)
 
 returns-4 : tie.Need-returns-4
 unfolding refusal

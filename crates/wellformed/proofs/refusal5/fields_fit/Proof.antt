@@ -8,7 +8,8 @@ use Prim.Native.Nat.{_≤_, _-_}
 use native.Mathlib.Nat.{le-of-lt}
 use Rattle.names.proofs.CountLaws.{every-none, every-more, every-fails}
 use Rattle.table.proofs.LayoutLaws.{in-range, inside-type}
-use Rattle.wellformed.proofs.EndLaws.{ends-rise, ends-inside, fields-ends}
+use Rattle.wellformed.proofs.EndLaws.{fields-ends}
+use Rattle.columns.proofs.ColumnLaws.{runs}
 use Rattle.names.specs.Count.{every}
 use Rattle.wellformed.specs.WellFormed.{fieldFits, fieldsFit}
 use Rattle.wellformed.proofs.refusal5.fields_fit.Statement.{statement}
@@ -59,7 +60,7 @@ loop-holds c =
     let e = fields-ends _ _ (entry .pre .1 .1) in
     let r : (c .start-at .result ≤ c .before .before .end-at .result) × (c .before .before .end-at .result ≤ entry .args .l .fields) =
     simp (c .start-at .ensures .0, c .before .fields-ends2 .ensures, c .before .before .end-at .ensures .0, c .before .before .before .fields-ends .ensures, index .ensures)
-    (ends-rise _ _ _ e (entry .args .t .0) (entry .pre .1 .0), ends-inside _ _ _ e (entry .args .t .0) (entry .pre .1 .0)) in
+    (runs _ _ _ e .rise (entry .args .t .0) (entry .pre .1 .0), runs _ _ _ e .inside (entry .args .t .0) (entry .pre .1 .0)) in
     (omega arith, r .0, r .1, every-none _ _)
 
 field-fits-requires : tie.Need-field-fits-requires Inv-loop μ-loop

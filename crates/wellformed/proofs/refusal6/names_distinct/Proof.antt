@@ -1,6 +1,7 @@
 -- All types are one run from 0.
 use native.Mathlib.Omega.{arith}
 use Rattle.table.proofs.LayoutLaws.{inside-type}
+use Rattle.wellformed.proofs.WordLaws.{type-names-below}
 use Rattle.wellformed.specs.WellFormed.{namesDistinct}
 use borrow.Author.Needs.{needs}
 use Rattle.wellformed.proofs.refusal6.names_distinct.Statement.{statement}
@@ -12,7 +13,7 @@ type-names-requires c κs = search needs
 all-distinct-requires : tie.Need-all-distinct-requires
 all-distinct-requires c κs =
     let s = c .before .before in
-    rw (c .type-names .ensures) (inside-type (s .pre .0) 0 (omega arith), (omega arith, omega arith))
+    rw (c .type-names .ensures) (inside-type (s .pre .0) 0 (omega arith), ((omega arith, omega arith), type-names-below (s .pre .0) (s .pre .1)))
 
 rows-all-distinct-requires : tie.Need-rows-all-distinct-requires
 rows-all-distinct-requires c κs = search needs

@@ -1,5 +1,5 @@
--- Good ends put the run in its section.
-use Rattle.wellformed.proofs.EndLaws.{ends-rise, ends-inside}
+-- Good ends put the run in its section, whose words are numbers of names.
+use Rattle.columns.proofs.ColumnLaws.{runs}
 use Rattle.wellformed.specs.WellFormed.{runDistinct}
 use borrow.Author.Needs.{needs}
 use Rattle.wellformed.proofs.refusal6.run_distinct.Statement.{statement}
@@ -21,7 +21,8 @@ all-distinct-requires : tie.Need-all-distinct-requires
 all-distinct-requires c κs =
     let pre = c .before .before .before .before .before .pre in
     let args = c .before .before .before .before .before .args in
-    (pre .0, simp (c .before .before .start-at .ensures .0, c .end-at .ensures .0, c .before .before .before .index .ensures, c .before .index2 .ensures) (ends-rise _ _ _ (pre .1 .1 .1) (args .t .0) (pre .1 .1 .0), ends-inside _ _ _ (pre .1 .1 .1) (args .t .0) (pre .1 .1 .0)))
+    let h = runs _ _ _ (pre .1 .1 .1 .0) in
+    (pre .0, (simp (c .before .before .start-at .ensures .0, c .end-at .ensures .0, c .before .before .before .index .ensures, c .before .index2 .ensures) (h .rise (args .t .0) (pre .1 .1 .0), h .inside (args .t .0) (pre .1 .1 .0)), pre .1 .1 .1 .1))
 
 returns : tie.Need-returns
 unfolding runDistinct

@@ -1,5 +1,0 @@
-pub mod OrderLaws
-mod RankLaws
-mod InsertLaws
-mod LookupLaws
-pub mod PlacedLaws

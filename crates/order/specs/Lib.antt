@@ -1,3 +1,0 @@
-pub mod Order
-pub mod Rank
-pub mod Examples

@@ -1,0 +1,5 @@
+pub mod Numbers
+pub mod Rising
+pub mod Runs
+pub mod Lists
+pub mod Examples

@@ -1,0 +1,3 @@
+pub mod Reach
+pub mod Levels
+pub mod Lookups

@@ -3,6 +3,8 @@
 // The incident that this library began with is played again: the type of a composed schema has dropped the room argument that its interface
 // demands. The list of records says so, and the board is not opened. The repaired schema has no record, and the board is opened. Then comes
 // document 01's whole case. The work table goes from one schema to the next as the call leaves it: nobody clears it in between.
+#![tactic(auto)]
+
 mod code_names;
 mod schemas;
 mod show;

@@ -7,7 +7,7 @@ use lhakvuni::{Answer, check_table, first_cycle, records};
 use table::numbers::TypeRow;
 use table::refusal::Refusal;
 
-#[derive(Drop)]
+#[derive(Clone, Copy)]
 pub enum Call {
     Records,
     // Of the type at a row.
@@ -16,7 +16,7 @@ pub enum Call {
 
 // The number of the table's check, and that of the call: a refusal's or 0; the rows, or for refusal 10 the need in words; how many words at
 // the front of the work table are 0 afterwards.
-#[derive(Drop)]
+#[derive(Clone, Copy)]
 pub struct Want {
     table: u32,
     number: u32,

@@ -1,6 +1,8 @@
 // Document 01's boards that are only run, and first cycles. A line has the number of the table's check and what the call answered, and
 // then `right` if these, the output and the work table are as document 01 asks, or `WRONG`. Lent memory is full of one number before a
 // call, so that what the call leaves alone and what it writes can be told apart.
+#![tactic(auto)]
+
 ghost use Rattle.std.specs.Prelude.{◌≤◌};
 
 mod cases;

@@ -4,6 +4,8 @@
 // row gets wider.
 // The idea: a function for each kind of row, named after the constructors of crates/table/specs/Tables.antt. It puts the row's words in at a
 // place and answers the place behind them, so that a table is its header, its rows and its roots, one after the other.
+#![tactic(auto)]
+
 ghost use Rattle.std.specs.Prelude.{◌≡◌, ◌∷◌, [], ◌*◌, ◌<◌, length, set};
 ghost use Rattle.table.specs.Tables.{name_row, type_row, edge_row, field_row, argument_row, member_row, value_row, roots_row, no_roots};
 ghost use Rattle.building.specs.Building.{counts_row, behind, Added, letters, letter, two_letters};
@@ -12,7 +14,7 @@ use names::wrap::Wrap;
 use table::numbers::NameNo;
 
 // The rows of each section.
-#[derive(Drop)]
+#[derive(Clone, Copy)]
 pub struct Counts {
     pub names: u32,
     pub types: u32,
@@ -24,7 +26,7 @@ pub struct Counts {
 }
 
 // Where the rows of a type end, in each section that has some.
-#[derive(Drop)]
+#[derive(Clone, Copy)]
 pub struct Ends {
     pub edges: u32,
     pub fields: u32,

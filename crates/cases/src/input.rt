@@ -3,7 +3,7 @@ ghost use Rattle.std.specs.Prelude.{◌≤◌};
 ghost use Rattle.cases.specs.Head.{Sized};
 
 // The head of a case. A length above 4,096 is cut to that, and the cases behind it then come out wrong: no case of the file is so long.
-#[derive(Drop)]
+#[derive(Clone, Copy)]
 pub struct Head {
     pub call: u32,
     pub text: usize,

@@ -5,6 +5,8 @@
 // Standard input holds little-endian words. A case is ten words (call, bytes of text, words of the table, type row, words of evidence, of
 // work and of output, then the number, the value and the rule of the answer), the text padded to whole words, the table, the evidence, the
 // work table and the output as they are lent, and these two as they must be afterwards. A case whose call is 0 ends the file.
+#![tactic(auto)]
+
 ghost use Rattle.std.specs.Prelude.{◌≤◌, length};
 ghost use Rattle.cases.specs.Head.{Sized};
 
@@ -202,7 +204,7 @@ fn run_case(head: Head) -> bool
 }
 
 // How many cases of each call were run, and how many were right.
-#[derive(Drop)]
+#[derive(Clone, Copy)]
 struct Tally {
     ran: [u64; 6],
     right: [u64; 6],

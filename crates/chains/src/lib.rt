@@ -8,6 +8,8 @@
 // A search enters each type once and reads each field once, where walking each way anew takes exponentially many steps. A type that leads
 // to marked types only, none of them the start, is no way back whoever marked them. So types that lead to no closed chain at all are marked once for
 // all searches (settle.rt), and none enters them.
+#![tactic(auto)]
+
 pub mod cycle;
 pub mod settle;
 pub mod walk;

@@ -4,7 +4,7 @@ ghost use Rattle.table.specs.Layout.{most_types};
 ghost use Rattle.chains.specs.Work.{work_words, counts_at, trail_at};
 
 // The work table for so many types: first their marks, then the counts of their first cycles, last the trail of a walk: from where each type was entered.
-#[derive(Drop)]
+#[derive(Clone, Copy)]
 pub struct Work {
     pub types: usize,
 }
@@ -38,7 +38,7 @@ impl Work {
 }
 
 // The mark of a type: the word with its row's number.
-#[derive(Drop)]
+#[derive(Clone, Copy)]
 pub struct Mark(pub u32);
 
 impl Mark {

@@ -4,6 +4,8 @@
 // their count, whether a name stands twice in a run. No word may be trusted before it is asked.
 // The idea: a column that lies within the table is all that a question needs, so that nothing here knows a refusal. Repeats are found in one
 // pass, by a bit for each name that was met: they are asked last, when each word is known to be one of at most 4,096 names.
+#![tactic(auto)]
+
 ghost use Rattle.std.specs.Prelude.{◌≡◌, ◌≤◌, ◌<◌};
 ghost use Rattle.table.specs.Layout.{most_names, Inside};
 ghost use Rattle.columns.specs.Columns.{below, AllBelow, wraps_good, ends_good, distinct};

@@ -18,7 +18,7 @@ use table::layout::Layout;
 use table::numbers::TypeRow;
 
 // A field of an interface and the own field of its name: the type, the edge's row, and the rows of the two fields.
-#[derive(Drop)]
+#[derive(Clone, Copy)]
 pub struct FieldPair {
     pub ty: TypeRow,
     pub edge: u32,

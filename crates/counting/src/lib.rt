@@ -3,6 +3,8 @@
 // The problem: a search for each type takes as many steps as there are fields, and most types lead to no closed chain.
 // The idea: those are settled in one walk, and only the others are searched. What the fields lead to is looked up once for all of them, into an array of
 // the call's own.
+#![tactic(auto)]
+
 ghost use Rattle.std.specs.Prelude.{◌≡◌, ◌*◌, ◌≤◌, ◌<◌, length};
 ghost use Rattle.table.specs.Layout.{type_count};
 ghost use Rattle.rows.specs.Readable.{SoundRows};

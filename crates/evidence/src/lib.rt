@@ -8,6 +8,8 @@
 // This crate has the definitions, in specs/, and the theorems, which proofs/Evidence lists; and what the judge and the producer
 // both read: the words of a row, and the chain fields of a type. Words of a table that we don't trust are never an index: past
 // the end stands 0.
+#![tactic(auto)]
+
 pub mod chain;
 pub mod judged;
 pub mod row;

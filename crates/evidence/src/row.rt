@@ -7,7 +7,7 @@ use table::layout::{Layout, wide};
 use table::numbers::TypeRow;
 
 // Which of the six.
-#[derive(Drop)]
+#[derive(Clone, Copy)]
 pub enum EvidenceColumn {
     Number,
     Leader,
@@ -45,7 +45,7 @@ impl EvidenceColumn {
 }
 
 // A word of evidence; NONE stands in the last five of a type that is not marked.
-#[derive(Drop)]
+#[derive(Clone, Copy)]
 pub struct EvidenceWord(pub u32);
 
 impl EvidenceWord {

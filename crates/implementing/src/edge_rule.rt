@@ -3,14 +3,14 @@
 use matching::field_rule::FieldRule;
 
 // A rule over defined edges: 8, or one over the interface's fields.
-#[derive(Drop)]
+#[derive(Clone, Copy)]
 pub enum DefinedRule {
     Transitive,
     Fields(FieldRule),
 }
 
 // A rule over all edges: 3 for those that are not defined, or one for those that are.
-#[derive(Drop)]
+#[derive(Clone, Copy)]
 pub enum EdgeRule {
     Undefined,
     Defined(DefinedRule),

@@ -6,6 +6,8 @@
 // loop over edges and one over interface fields serve them all: the rule is handed in as an enum, and specs/Rules.antt says what each lists.
 // The loop over interface fields stands apart, in the crate `matching`, and so does the comparison of an own field with the interface's, in the
 // crate `comparing`.
+#![tactic(auto)]
+
 pub mod edge_rule;
 pub mod implements_interfaces;
 pub mod interface;

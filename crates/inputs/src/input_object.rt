@@ -64,7 +64,7 @@ fn validate_input_type(
 }
 
 // An argument or an input field: its name, its type's name, and the flag that silences record 5.
-#[derive(Drop)]
+#[derive(Clone, Copy)]
 struct InputValue {
     name: NameNo,
     ty: NameNo,

@@ -7,6 +7,8 @@
 //
 // A rule looks at one row, its leader's row and the rows that chain fields lead to: no search, and no work memory. What every field leads to is
 // looked up once, into an array of the call's own. Rule 6 asks for the type that owns a field, and goes through the types for it.
+#![tactic(auto)]
+
 ghost use Rattle.std.specs.Prelude.{◌≡◌, ◌<◌};
 ghost use Rattle.rows.specs.Readable.{SoundRows};
 ghost use Rattle.links.specs.Fields.{is_input_object, chain_graph};

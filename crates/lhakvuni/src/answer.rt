@@ -4,7 +4,7 @@ ghost use Rattle.lhakvuni.specs.Answers.{answer_number};
 
 use table::refusal::Refusal;
 
-#[derive(Drop)]
+#[derive(Clone, Copy)]
 pub enum Answer {
     // So many rows were written.
     Rows(usize),

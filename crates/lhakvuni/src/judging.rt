@@ -11,7 +11,7 @@ use table::numbers::TypeRow;
 use table::refusal::Refusal;
 use wellformed::check::Verdict;
 
-#[derive(Drop)]
+#[derive(Clone, Copy)]
 pub enum Judgement {
     // Every mark is right.
     Passes,

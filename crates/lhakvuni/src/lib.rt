@@ -5,6 +5,8 @@
 // (specs/Promise.antt, specs/Calls.antt). Nothing is asked of what the work table and the output held before.
 // The idea: check the table by its refusals, and only then read rows by their numbers; write the work words that the call uses before it
 // reads them, and clear them after; run the rules over an empty part of the output first, to learn how many rows there are, and over the output only if they fit.
+#![tactic(auto)]
+
 pub mod answer;
 pub mod c;
 pub mod calls;

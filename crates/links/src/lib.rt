@@ -4,6 +4,8 @@
 // The idea: the graph of a table is said by functions (specs/Chains.antt, specs/Fields.antt), and what each field leads to is looked up by its name once, into
 // a cell for each field row; a search then reads the cell. Where a type's fields start and end is found from the header of the table, so that a search
 // that goes deep hands on no layout.
+#![tactic(auto)]
+
 ghost use Rattle.std.specs.Prelude.{◌≡◌, ◌≤◌, ◌<◌, length};
 ghost use Rattle.table.specs.Layout.{Laid, layout_of, type_count, field_count, fields_start, field_type, field_wrap};
 ghost use Rattle.rows.specs.Types.{found_at};

@@ -4,6 +4,8 @@
 // among the own. A walk for each reads them all as often.
 // The idea: the cells of the crate rows (index.rt), one for each name number, tell the first row of a name. They are filled in one pass over the
 // rows (arguments.rt, fields.rt). Where there are few rows a walk does, and no cells are handed on. The walk stays the definition.
+#![tactic(auto)]
+
 pub mod arguments;
 mod cell;
 pub mod fields;

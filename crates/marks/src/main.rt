@@ -1,5 +1,7 @@
 // Evidence for a ring of 1,024 input objects and for a ladder of 1,024: made, judged, and judged again with one word changed. All types of the
 // ring lie on a closed chain, and none of the ladder does.
+#![tactic(auto)]
+
 ghost use Rattle.std.specs.Prelude.{◌≤◌};
 
 use evidence::judged::Judged;

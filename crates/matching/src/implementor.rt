@@ -2,7 +2,7 @@
 use table::numbers::TypeRow;
 
 // A type that implements interfaces: its row, and the first rows of its edges and of its fields.
-#[derive(Drop)]
+#[derive(Clone, Copy)]
 pub struct Implementor {
     pub ty: TypeRow,
     pub edges_first: usize,
@@ -10,7 +10,7 @@ pub struct Implementor {
 }
 
 // A field of an interface: the row of the edge that leads there, the interface's first field row, and the place among its fields.
-#[derive(Drop)]
+#[derive(Clone, Copy)]
 pub struct InterfaceField {
     pub edge: u32,
     pub first: usize,

@@ -5,6 +5,8 @@
 // The idea: one loop over the interface's fields serves the three: the rule is handed in as an enum, and specs/Rules.antt says what each lists. The
 // own field of a name is found in one look where a type has many (the crate `lookup`). What two fields of a name are held to is the crate
 // `comparing`'s to say, and which interfaces the crate `implementing`'s.
+#![tactic(auto)]
+
 pub mod field_rule;
 pub mod implementation_field;
 pub mod implementor;

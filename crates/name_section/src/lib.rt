@@ -4,6 +4,8 @@
 // 4,096 times.
 // The idea: whether a name is a Spec Name is asked of stops, which are found once for the text (src/stops.rt of crates/names). Of two
 // neighbours that start at one place the shorter comes first, and no byte is read; others are compared by blocks.
+#![tactic(auto)]
+
 ghost use Rattle.std.specs.Prelude.{◌≡◌, true, ◌^◌, ◌≤◌, ◌<◌, length};
 ghost use Rattle.names.specs.Stops.{Stops};
 ghost use Rattle.table.specs.Layout.{most_text, word_at, name_starts, Laid};

@@ -10,6 +10,8 @@
 //
 // The search takes the parts of the work table that other searches have for marks and counts. What every field leads to is looked up once, into an array
 // of the call's own.
+#![tactic(auto)]
+
 ghost use Rattle.std.specs.Prelude.{◌≡◌, ◌++◌, ◌*◌, drop, replicate};
 ghost use Rattle.table.specs.Layout.{type_count};
 ghost use Rattle.rows.specs.Readable.{SoundRows};

@@ -1,6 +1,8 @@
 // Record rows: document 01, "Records". Each of the 21 records has a constructor named after the Rust's DiagnosticData, and `put` writes a
 // row at the front of the output that it is lent, if it fits. One code path counts and writes: a rule is lent the tail of the output
 // from the next free row, and answers how many rows it has, fitting or not. `Emitted` of specs/Records.antt says what that leaves.
+#![tactic(auto)]
+
 ghost use Rattle.std.specs.Prelude.{◌≡◌, ◌∷◌, [], ◌*◌, ◌≤◌, ◌<◌, min, eqb};
 ghost use Rattle.table.specs.Layout.{none};
 ghost use Rattle.records.specs.Records.{Emitted, row_words, countable};
@@ -10,7 +12,7 @@ use table::layout::Layout;
 use table::numbers::{NameNo, TypeRow};
 
 // A record's code, document 01's number.
-#[derive(Drop)]
+#[derive(Clone, Copy)]
 pub struct Code(pub u32);
 
 impl Code {
@@ -58,7 +60,7 @@ impl Code {
 }
 
 // What a row in a record is a row of.
-#[derive(Drop)]
+#[derive(Clone, Copy)]
 pub struct Place(pub u32);
 
 impl Place {
@@ -80,7 +82,7 @@ impl Place {
 }
 
 // A word of a record behind the type: a row, a name, a place or a number, or NONE where there is nothing to say.
-#[derive(Drop)]
+#[derive(Clone, Copy)]
 pub struct Word(pub u32);
 
 impl Word {
@@ -94,7 +96,7 @@ impl Word {
 }
 
 // A record's words, in their order.
-#[derive(Drop)]
+#[derive(Clone, Copy)]
 pub struct Record {
     pub code: Code,
     pub ty: TypeRow,

@@ -1,4 +1,6 @@
 // The calls with the answers that document 01 asks for, made by a program written from document 01 alone.
+#![tactic(auto)]
+
 fn main() {
     cases::run();
 }

@@ -1,5 +1,7 @@
 // A ring of 1,024 input objects and a ladder of 1,024, each searched to the end: the first cycle of a type of the ring goes through all
 // of it, and no type of the ladder has one, though the number of ways down the ladder has more than two hundred digits.
+#![tactic(auto)]
+
 ghost use Rattle.std.specs.Prelude.{◌*◌, ◌≤◌, ◌<◌, length};
 ghost use Rattle.rows.specs.Readable.{SoundRows};
 ghost use Rattle.chains.specs.Work.{work_words};

@@ -8,6 +8,8 @@
 // names and one over a set of bits, one for each name that there can be (sort.rt): a set gives its numbers back in rising order.
 //
 // The plain search stays the definition: `has_edge_named` and `has_member_named` promise what it says of the run.
+#![tactic(auto)]
+
 pub mod find;
 pub mod lists;
 pub mod runs;

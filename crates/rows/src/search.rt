@@ -8,7 +8,7 @@ use crate::cells::{argument_name, argument_rows, field_name, field_rows};
 use table::numbers::NameNo;
 
 // A row of a part.
-#[derive(Drop)]
+#[derive(Clone, Copy)]
 pub enum Found {
     At(usize),
     Nothing,

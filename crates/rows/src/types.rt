@@ -8,7 +8,7 @@ use table::kinds::Kind;
 use table::layout::{Layout, word_at};
 use table::numbers::{NameNo, TypeRow};
 
-#[derive(Drop)]
+#[derive(Clone, Copy)]
 pub enum FoundType {
     At(TypeRow),
     Nothing,

@@ -1,4 +1,6 @@
 // A fixed sample of the Rust's own answers: small tables, every record code in at least three. compare/sample.py made it.
+#![tactic(auto)]
+
 fn main() {
     cases::run();
 }

@@ -2,6 +2,8 @@
 //
 // The parts of the work table are those of the crate chains. Where that has the mark of a type stands its level, the number of fields on the
 // way to it, or 0 where it is not marked; where it has counts, the list of the marked types.
+#![tactic(auto)]
+
 ghost use Rattle.std.specs.Prelude.{◌<◌, ◌≤◌, length};
 ghost use Rattle.table.specs.Layout.{most_types};
 ghost use Rattle.links.specs.Fields.{chains_end, chain_graph};

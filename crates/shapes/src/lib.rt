@@ -2,6 +2,8 @@
 //
 // The ring: type i has one field, to type i + 1; the last leads back to type 0.
 // The ladder: type i has two fields, to the types i + 1 and i + 2; the last but one has one, and the last has none.
+#![tactic(auto)]
+
 ghost use Rattle.std.specs.Prelude.{◌≡◌, ◌≤◌, ◌<◌};
 ghost use Rattle.records.specs.Records.{each};
 ghost use Rattle.building.specs.Building.{Added};
@@ -34,7 +36,7 @@ pub const LADDER_FIELDS: usize = 2 * TYPES - 3;
 
 pub const LADDER_WORDS: usize = FIELDS_AT + Layout::FIELD * LADDER_FIELDS + Layout::ROOTS;
 
-#[derive(Drop)]
+#[derive(Clone, Copy)]
 pub enum Shape {
     Ring,
     Ladder,

@@ -6,7 +6,7 @@ ghost use Rattle.table.specs.Layout.{none};
 use crate::layout::Layout;
 
 // A row of the name section.
-#[derive(Drop)]
+#[derive(Clone, Copy)]
 pub struct NameNo(pub u32);
 
 impl NameNo {
@@ -33,7 +33,7 @@ impl NameNo {
 }
 
 // A row of the type section.
-#[derive(Drop)]
+#[derive(Clone, Copy)]
 pub struct TypeRow(pub u32);
 
 impl TypeRow {

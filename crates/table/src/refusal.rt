@@ -1,5 +1,5 @@
 // Document 01, "Refusal numbers": each number by its name, which is the one that include/lhakvuni.h gives it.
-#[derive(Drop)]
+#[derive(Clone, Copy)]
 pub struct Refusal(pub u32);
 
 // The table's refusals, which every call makes first.

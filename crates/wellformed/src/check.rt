@@ -10,7 +10,7 @@ use name_section::names_right;
 use table::layout::{Layout, layout_of};
 use table::refusal::Refusal;
 
-#[derive(Drop)]
+#[derive(Clone, Copy)]
 pub enum Verdict {
     WellFormed,
     Refused(Refusal),

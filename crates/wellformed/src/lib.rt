@@ -6,6 +6,8 @@
 // of a section is one loop over a column (crates/columns; refusal 4 is crates/name_section). Ends are checked before the runs that they cut
 // are read.
 // What a well-formed table is good for is one record of facts, `Sound` (specs/Sound.antt): refusal 0 gives it, and it gives refusal 0.
+#![tactic(auto)]
+
 pub mod check;
 pub mod refusal4;
 pub mod refusal5;

@@ -5,6 +5,8 @@
 // The idea: a word is written where `word_at` reads it, by its column and row. A row is put in by opening room for it: the words from its place on
 // stand one row further, and the room is filled by `set_word` afterwards. It is taken out by closing that room again. Each says of every word of
 // the slice what it then is (specs/Writing.antt). Counts and ends are words like others, and are the caller's to set.
+#![tactic(auto)]
+
 ghost use Rattle.std.specs.Prelude.{◌≡◌, ◌+◌, ◌*◌, ◌≤◌, ◌<◌, length};
 ghost use Rattle.table.specs.Layout.{Inside};
 ghost use Rattle.writing.specs.Writing.{with_word, Opened, Closed};

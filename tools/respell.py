@@ -11,7 +11,7 @@ import re
 import sys
 
 # A lemma that would have its definition's name, a field that would hide the definition that it speaks of, and an example named after a record.
-LEMMAS = """arguments-ends chain-field cycle-rows edge-names edges-ends field-arguments fields-ends found-at found-cell found-row judge-number kind-named
+LEMMAS = """arguments-ends bit-or chain-field cycle-rows edge-names edges-ends field-arguments fields-ends found-at found-cell found-row judge-number kind-named
 make-number member-names members-ends name-start names-rise or-next records-number root-good roots-good table-length type-count values-ends wraps-fit"""
 FITTING = """argument-default argument-name argument-type argument-wrap edge-name field-default field-name field-type field-wrap member-name root-name
 type-flag type-kind type-name value-name"""

@@ -1,7 +1,7 @@
 -- Laws of `every`, as a loop from the lowest number up meets them.
 use mathlib.Core.Path.{◌≡◌, refl, sym, ◌∙◌}
 use mathlib.Core.Bool.{Bool, true, false, ◌&&◌, ◌||◌}
-use mathlib.Core.Logic.{◌⊎◌, ⊎_elim}
+use mathlib.Core.Logic.{⊎_elim}
 use Prim.Native.Nat.{ℕ, zero, suc, ◌+◌, ◌≤◌, ◌<◌, zero-le}
 use native.Mathlib.Nat.{le_of_suc-le-suc, eq-or-lt_of_le, add-zero}
 use native.Mathlib.Numerals.{add-one}

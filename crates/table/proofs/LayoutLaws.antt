@@ -1,11 +1,10 @@
 -- What a layout tells: each column lies within the table; and when the header, the limits and the length are right, all of it.
-use mathlib.Core.Path.{◌≡◌, refl, sym, ◌∙◌}
+use mathlib.Core.Path.{◌≡◌}
 use mathlib.Core.List.{List}
-use Prim.Native.Nat.{ℕ, ◌+◌, ◌≤◌, ◌<◌}
+use Prim.Native.Nat.{ℕ, ◌+◌, ◌<◌}
 use native.Mathlib.Omega.{arith}
-use lib.ListN.{length}
 use Rattle.table.specs.declared.layout.Layout.{Layout}
-use Rattle.table.specs.Layout.{root_words, type_words, field_words, argument_words, most_names, most_types, most_edges, most_fields, most_arguments, most_members, most_values, most_text, table_length, layout_of, Inside, Laid, InRange, name_starts, name_lengths, type_column, edge_names, field_column, argument_column, member_names, value_names, roots, types_at, edges_at, fields_at, arguments_at, members_at, values_at, roots_at}
+use Rattle.table.specs.Layout.{root_words, type_words, field_words, argument_words, table_length, layout_of, Inside, Laid, InRange, name_starts, name_lengths, type_column, edge_names, field_column, argument_column, member_names, value_names, roots, types_at, edges_at, fields_at, arguments_at, members_at, values_at, roots_at}
 
 module _ {w : List ℕ} {l : Layout} (laid : Laid w l) where
   pub in_range : InRange l

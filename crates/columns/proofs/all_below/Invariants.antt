@@ -1,0 +1,14 @@
+-- The invariant: every word passed is below the limit; one that is not decides.
+use mathlib.Core.Path.{◌≡◌}
+use mathlib.Core.Bool.{true}
+use Prim.Native.Nat.{◌≤◌, ◌-◌}
+use lib.Dec.{ltb}
+use Rattle.names.specs.Count.{every}
+use Rattle.table.specs.Layout.{word_at}
+use Rattle.columns.proofs.all_below.Given as goal
+
+abbrev pub invariant-loop-i : goal.invariant-loop-i
+invariant-loop-i l = (l.i ≤ l.col.rows) × (every (λ j. ltb (word_at l.words l.col j) l.limit) 0 l.i ≡ true)
+
+abbrev pub decreases-loop-i : goal.decreases-loop-i
+decreases-loop-i l = l.col.rows - l.i

@@ -115,7 +115,7 @@ module _ (w : List ℕ) (l : Layout) (same : l ≡ layout_of w) (t : ℕ) where
 
 -- the header is there
 pub header_there : {text w : List ℕ} → Sound text w → header_words ≤ length w
-header_there s = omega (arith, s.laid.whole, s.laid.roots_at_is, s.laid.values_at_is, s.laid.members_at_is, s.laid.arguments_at_is, s.laid.fields_at, s.laid.edges_at, s.laid.types_at_is)
+header_there s = omega (arith, s.laid.whole, s.laid.roots_at_is, s.laid.values_at_is, s.laid.members_at_is, s.laid.arguments_at_is, s.laid.fields_at_is, s.laid.edges_at_is, s.laid.types_at_is)
 
 -- a well-formed table with its layout
 pub sound_by : {text w : List ℕ} {l : Layout} → Sound text w → l ≡ layout_of w → SoundRows w l

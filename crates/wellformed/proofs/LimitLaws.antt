@@ -62,8 +62,8 @@ laid text w e r =
     record {
       same = refl;
       types_at_is = refl;
-      edges_at = refl;
-      fields_at = refl;
+      edges_at_is = refl;
+      fields_at_is = refl;
       arguments_at_is = refl;
       members_at_is = refl;
       values_at_is = refl;

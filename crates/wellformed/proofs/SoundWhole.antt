@@ -2,8 +2,8 @@
 use mathlib.Core.Path.{◌≡◌, refl, ◌∙◌}
 use mathlib.Core.Bool.{Bool, true, false, ◌||◌}
 use mathlib.Core.List.{List}
-use mathlib.Core.Logic.{◌⊎◌, ⊎_elim}
-use Prim.Native.Nat.{ℕ, ◌-◌, ◌≤◌, ◌<◌}
+use mathlib.Core.Logic.{⊎_elim}
+use Prim.Native.Nat.{ℕ, ◌≤◌, ◌<◌}
 use native.Mathlib.Omega.{arith}
 use lib.ListN.{length}
 use lib.Dec.{ltb, eqb}
@@ -39,7 +39,7 @@ module _ (text w : List ℕ) (s : Sound text w) where
   l = layout_of w
 
   header : has_header w ≡ true
-  header = le-leb 7 (length w) (omega (arith, s.laid.whole, s.laid.roots_at_is, s.laid.values_at_is, s.laid.members_at_is, s.laid.arguments_at_is, s.laid.fields_at, s.laid.edges_at, s.laid.types_at_is))
+  header = le-leb 7 (length w) (omega (arith, s.laid.whole, s.laid.roots_at_is, s.laid.values_at_is, s.laid.members_at_is, s.laid.arguments_at_is, s.laid.fields_at_is, s.laid.edges_at_is, s.laid.types_at_is))
 
   limits : in_limits text l ≡ true
   unfolding in_limits

@@ -1,5 +1,5 @@
 -- Document 01, "Records": record rows, and what writing a list of them to an output leaves there.
-use Rattle.std.specs.Prelude.{◌≡◌, List, ◌∷◌, [], ◌++◌, Bool, true, false, ℕ, suc, zero, ◌+◌, ◌*◌, ◌^◌, ◌≤◌, length, drop}
+use Rattle.std.specs.Prelude.{◌≡◌, List, ◌∷◌, [], ◌++◌, Bool, true, false, ℕ, suc, zero, ◌*◌, ◌^◌, ◌≤◌, length, drop}
 use Rattle.records.specs.declared.Record.{Record}
 
 -- the words of a record row

@@ -18,7 +18,7 @@ use Rattle.rows.specs.Readable.{SoundRows}
 use Rattle.rows.specs.Search.{find}
 use Rattle.rows.specs.Types.{type_named, found_at}
 use Rattle.rows.specs.Index.{cell_of, Tells, noted, Indexed}
-use Rattle.rows.proofs.FindLaws.{find_kept, find_last, find_past, find_most, none_left}
+use Rattle.rows.proofs.FindLaws.{find_kept, find_last, find_past}
 use Rattle.rows.proofs.FoundTypes.{found_at_lem, found_nothing}
 
 -- a row is noted where none is noted yet

@@ -1,0 +1,13 @@
+-- A sound run lies in its section, and the section in the table.
+use Rattle.rows.proofs.PartLaws.{edges_cut, edges_part}
+use Rattle.rows.proofs.parts.edges_of.Goals as goal
+
+pub run_of-requires : goal.run_of-requires
+run_of-requires c =
+    let p = edges_cut c.args.words.now c.args.l c.requires.sound_rows c.args.t.0 c.requires.t_lt_types _ _ c.edge_names.ensures c.edges_ends.ensures in
+    rw c.index.ensures (record { inside = p.0; i_lt_rows = p.1.0; i_bound = p.1.1.0; i_in_bounds = p.1.1.1 })
+
+pub returns : goal.returns
+returns c =
+    let p = edges_part c.args.words.now c.args.l c.requires.sound_rows c.args.t.0 c.requires.t_lt_types _ _ c.edge_names.ensures c.edges_ends.ensures _ (rw c.index.ensures at c.run_of.ensures) in
+    record { result_value = p.0; name_part = p.1 }

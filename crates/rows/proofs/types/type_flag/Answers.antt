@@ -1,0 +1,12 @@
+-- `type_flag`: what the calls answer, put together as the definition does.
+use borrow.Author.Rules.{rules}
+use lib.Dec.{lit<}
+use Rattle.table.proofs.LayoutLaws.{inside_type}
+use Rattle.rows.proofs.types.type_flag.Goals as goal
+
+pub word_at-requires : goal.word_at-requires
+word_at-requires c =
+    rw (c.type_flags.ensures, c.index.ensures) record { inside = inside_type c.requires.laid 2 (lit< tt); i_lt_rows = search rules }
+
+pub returns : goal.returns
+returns c = simp (c.word_at.ensures, c.type_flags.ensures, c.index.ensures, c.requires.laid.same)

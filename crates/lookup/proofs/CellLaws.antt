@@ -4,13 +4,11 @@ use mathlib.Core.Logic.{◌≢◌, ⊎_elim}
 use mathlib.Core.List.{List, []}
 use Prim.Native.Nat.{ℕ, zero, suc, ◌+◌, ◌-◌, ◌≤◌, ◌<◌}
 use native.Mathlib.Omega.{arith}
-use lib.Dec.{eqb}
 use lib.ListN.{length, get_or, replicate, length-replicate, get_or-replicate, get_or-eq_default}
 use Rattle.names.proofs.BoolLaws.{below_or_from}
 use Rattle.table.specs.declared.layout.Layout.{Layout}
 use Rattle.table.specs.Layout.{most_names}
 use Rattle.rows.specs.declared.search.Found.TheVariants.{At, Nothing}
-use Rattle.rows.specs.Search.{find}
 use Rattle.rows.specs.Parts.{argument_rows, argument_named, field_rows, field_named}
 use Rattle.rows.specs.Found.{found_row}
 use Rattle.rows.specs.Index.{cell_of, Tells, noted}

@@ -1,5 +1,6 @@
 // The names of the codes, as document 01 has them; 19 has none there, and bears the Rust's.
 use records::Code;
+use std::io;
 
 // The numbers of the codes: a `match` takes numbers, and no values of a struct.
 const QUERY_ROOT_OPERATION_TYPE: u32 = Code::QUERY_ROOT_OPERATION_TYPE.0;
@@ -47,35 +48,33 @@ const UNIQUE_INPUT_VALUE: u32 = Code::UNIQUE_INPUT_VALUE.0;
 const EMPTY_INPUT_VALUE_SET: u32 = Code::EMPTY_INPUT_VALUE_SET.0;
 
 // Writes the name of a code. The answer is whether it could be written.
-pub(crate) fn show_name(code: u32) -> bool {
+pub(crate) fn show_name(rt: &impl Print, code: u32) -> io::Result<()> {
     match code {
-        QUERY_ROOT_OPERATION_TYPE => io::write_all(1, b" QueryRootOperationType"),
-        ROOT_OPERATION_OBJECT_TYPE => io::write_all(1, b" RootOperationObjectType"),
-        UNDEFINED_DEFINITION => io::write_all(1, b" UndefinedDefinition"),
-        DUPLICATE_ROOT_OPERATION_TYPE => io::write_all(1, b" DuplicateRootOperationType"),
-        RESERVED_NAME => io::write_all(1, b" ReservedName"),
-        RECURSIVE_INTERFACE_DEFINITION => io::write_all(1, b" RecursiveInterfaceDefinition"),
-        EMPTY_FIELD_SET => io::write_all(1, b" EmptyFieldSet"),
-        TRANSITIVE_IMPLEMENTED_INTERFACES => io::write_all(1, b" TransitiveImplementedInterfaces"),
-        MISSING_INTERFACE_FIELD => io::write_all(1, b" MissingInterfaceField"),
-        INVALID_IMPLEMENTATION_FIELD_TYPE => io::write_all(1, b" InvalidImplementationFieldType"),
-        MISSING_INTERFACE_FIELD_ARGUMENT => io::write_all(1, b" MissingInterfaceFieldArgument"),
-        INVALID_IMPLEMENTATION_FIELD_ARGUMENT_TYPE => io::write_all(
-            1,
-            b" InvalidImplementationFieldArgumentType",
+        QUERY_ROOT_OPERATION_TYPE => print!(rt; " QueryRootOperationType"),
+        ROOT_OPERATION_OBJECT_TYPE => print!(rt; " RootOperationObjectType"),
+        UNDEFINED_DEFINITION => print!(rt; " UndefinedDefinition"),
+        DUPLICATE_ROOT_OPERATION_TYPE => print!(rt; " DuplicateRootOperationType"),
+        RESERVED_NAME => print!(rt; " ReservedName"),
+        RECURSIVE_INTERFACE_DEFINITION => print!(rt; " RecursiveInterfaceDefinition"),
+        EMPTY_FIELD_SET => print!(rt; " EmptyFieldSet"),
+        TRANSITIVE_IMPLEMENTED_INTERFACES => print!(rt; " TransitiveImplementedInterfaces"),
+        MISSING_INTERFACE_FIELD => print!(rt; " MissingInterfaceField"),
+        INVALID_IMPLEMENTATION_FIELD_TYPE => print!(rt; " InvalidImplementationFieldType"),
+        MISSING_INTERFACE_FIELD_ARGUMENT => print!(rt; " MissingInterfaceFieldArgument"),
+        INVALID_IMPLEMENTATION_FIELD_ARGUMENT_TYPE => print!(rt;
+            " InvalidImplementationFieldArgumentType"
         ),
-        EXTRA_REQUIRED_IMPLEMENTATION_FIELD_ARGUMENT => io::write_all(
-            1,
-            b" ExtraRequiredImplementationFieldArgument",
+        EXTRA_REQUIRED_IMPLEMENTATION_FIELD_ARGUMENT => print!(rt;
+            " ExtraRequiredImplementationFieldArgument"
         ),
-        UNION_MEMBER_OBJECT_TYPE => io::write_all(1, b" UnionMemberObjectType"),
-        EMPTY_MEMBER_SET => io::write_all(1, b" EmptyMemberSet"),
-        EMPTY_VALUE_SET => io::write_all(1, b" EmptyValueSet"),
-        RECURSIVE_INPUT_OBJECT_DEFINITION => io::write_all(1, b" RecursiveInputObjectDefinition"),
-        INPUT_TYPE => io::write_all(1, b" InputType"),
-        OUTPUT_TYPE => io::write_all(1, b" OutputType"),
-        UNIQUE_INPUT_VALUE => io::write_all(1, b" UniqueInputValue"),
-        EMPTY_INPUT_VALUE_SET => io::write_all(1, b" EmptyInputValueSet"),
-        _ => io::write_all(1, b" ?"),
+        UNION_MEMBER_OBJECT_TYPE => print!(rt; " UnionMemberObjectType"),
+        EMPTY_MEMBER_SET => print!(rt; " EmptyMemberSet"),
+        EMPTY_VALUE_SET => print!(rt; " EmptyValueSet"),
+        RECURSIVE_INPUT_OBJECT_DEFINITION => print!(rt; " RecursiveInputObjectDefinition"),
+        INPUT_TYPE => print!(rt; " InputType"),
+        OUTPUT_TYPE => print!(rt; " OutputType"),
+        UNIQUE_INPUT_VALUE => print!(rt; " UniqueInputValue"),
+        EMPTY_INPUT_VALUE_SET => print!(rt; " EmptyInputValueSet"),
+        _ => print!(rt; " ?"),
     }
 }

@@ -4,69 +4,65 @@ ghost use Rattle.records.specs.Records.{row_words};
 
 use crate::code_names::show_name;
 use records::{Record, Word};
+use std::io;
 use table::refusal::Refusal;
 
-fn show_number(n: u32) {
-    io::print_decimal(1, n as u64);
+fn show_number(rt: &impl Print, n: u32) -> io::Result<()> {
+    print!(rt; "{n}")
 }
 
 // A word of a record, and - for NONE.
-fn show_word(w: u32) {
+fn show_word(rt: &impl Print, w: u32) -> io::Result<()> {
     if Word(w).is_none() {
-        io::write_all(1, b" -");
-        return;
+        return print!(rt; " -");
     }
-    io::write_all(1, b" ");
-    show_number(w);
+    print!(rt; " ")?;
+    show_number(rt, w)
 }
 
 // A row: its code and the code's name, then type, a, b and c.
-fn show_record(row: &[u32])
+fn show_record(rt: &impl Print, row: &[u32]) -> io::Result<()>
     requires { row_words ≤ length row.now }
 {
-    io::write_all(1, b"  ");
-    show_number(row[0]);
-    show_name(row[0]);
+    print!(rt; "  ")?;
+    show_number(rt, row[0])?;
+    show_name(rt, row[0])?;
     let mut i = 1;
     while i < Record::WORDS {
-        show_word(row[i]);
+        show_word(rt, row[i])?;
         i += 1;
     }
-    io::write_all(1, b"\n");
+    println!(rt)
 }
 
 // The board is opened if there is no record.
-fn show_verdict(records: usize) {
+fn show_verdict(rt: &impl Print, records: usize) -> io::Result<()> {
     if records == 0 {
-        io::write_all(1, b"  the board is opened\n");
+        println!(rt; "  the board is opened")
     } else {
-        io::write_all(1, b"  the board is not opened\n");
+        println!(rt; "  the board is not opened")
     }
 }
 
-pub(crate) fn show_records(out: &[u32], n: usize)
+pub(crate) fn show_records(rt: &impl Print, out: &[u32], n: usize) -> io::Result<()>
     requires { row_words * n ≤ length out.now }
 {
-    io::write_all(1, b"records ");
-    io::print_decimal(1, n as u64);
-    io::write_all(1, b"\n");
+    println!(rt; "records {n}")?;
     let mut i = 0;
     while i < n {
         let at = Record::WORDS * i;
-        show_record(&out[at..]);
+        show_record(rt, &out[at..])?;
         i += 1;
     }
-    show_verdict(n);
+    show_verdict(rt, n)
 }
 
-pub(crate) fn show_refusal(refusal: Refusal) {
-    io::write_all(1, b"refusal ");
-    show_number(refusal.0);
-    io::write_all(1, b"\n  the board is not opened\n");
+pub(crate) fn show_refusal(rt: &impl Print, refusal: Refusal) -> io::Result<()> {
+    print!(rt; "refusal ")?;
+    show_number(rt, refusal.0)?;
+    println!(rt; "\n  the board is not opened")
 }
 
-pub(crate) fn show_need(need: usize) {
-    io::write_all(1, b"refusal 10, words needed ");
-    io::print_decimal(1, need as u64);
-    io::write_all(1, b"\n  the board is not opened\n");
+pub(crate) fn show_need(rt: &impl Print, need: usize) -> io::Result<()> {
+    println!(rt; "refusal 10, words needed {need}\n  the board is not opened")
 }

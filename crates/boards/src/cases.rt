@@ -4,6 +4,7 @@ ghost use Rattle.boards.specs.Wants.{want_rows, want_table, want_call, want_shor
 
 use chains::work::Work;
 use lhakvuni::{Answer, check_table, first_cycle, records};
+use std::io;
 use table::numbers::TypeRow;
 use table::refusal::Refusal;
 
@@ -123,32 +124,22 @@ fn answered(a: Answer, want: Want) -> bool {
     }
 }
 
-fn show_answer(a: Answer) {
+fn show_answer(rt: &impl Print, a: Answer) -> io::Result<()> {
     match a {
-        Answer::Rows(n) => {
-            io::write_all(1, b", rows ");
-            io::print_decimal(1, n as u64);
-        }
-        Answer::Refused(refusal) => {
-            io::write_all(1, b", refusal ");
-            io::print_decimal(1, refusal.0 as u64);
-        }
-        Answer::Short(need) => {
-            io::write_all(1, b", refusal 10, words needed ");
-            io::print_decimal(1, need as u64);
-        }
+        Answer::Rows(n) => print!(rt; ", rows {n}"),
+        Answer::Refused(refusal) => print!(rt; ", refusal {}", refusal.0),
+        Answer::Short(need) => print!(rt; ", refusal 10, words needed {need}"),
     }
 }
 
-fn report(title: &[u8], verdict: u32, a: Answer, right: bool) {
-    io::write_all(1, title);
-    io::write_all(1, b": table ");
-    io::print_decimal(1, verdict as u64);
-    show_answer(a);
+fn report(rt: &impl Print, title: &[u8], verdict: u32, a: Answer, right: bool) -> io::Result<()> {
+    rt.write_all(title)?;
+    print!(rt; ": table {verdict}")?;
+    show_answer(rt, a)?;
     if right {
-        io::write_all(1, b", right\n");
+        println!(rt; ", right")
     } else {
-        io::write_all(1, b", WRONG\n");
+        println!(rt; ", WRONG")
     }
 }
 
@@ -178,6 +169,7 @@ fn run(
 
 // A call over so many words of work and of output, full of a number.
 pub(crate) fn case(
+    rt: &impl Print,
     title: &[u8],
     call: Call,
     text: &[u8],
@@ -187,7 +179,7 @@ pub(crate) fn case(
     out: usize,
     want: Want,
     rows: &[u32],
-)
+) -> io::Result<()>
     requires { (work ≤ 3072) × (out ≤ 20) }
 {
     let mut works = [number; 3072];
@@ -196,9 +188,10 @@ pub(crate) fn case(
     let a = run(call, text, words, &mut works, work, &mut outs, out);
     let kept = cleared(&works, want.zeros, number) & left(&outs, rows, number);
     report(
+        rt,
         title,
         verdict,
         a,
         (verdict == want.table) & answered(a, want) & kept,
-    );
+    )
 }

@@ -11,6 +11,7 @@ mod tables;
 use cases::{Call, Want, case};
 use records::{Record, put};
 use shapes::whole_case;
+use std::io;
 use table::layout::Layout;
 use table::numbers::TypeRow;
 use table::refusal::Refusal;
@@ -40,13 +41,14 @@ fn two(first: Record, second: Record) -> [u32; 2 * Record::WORDS] {
 }
 
 // The most types, and one more.
-fn types() {
+fn types(rt: &impl Print) -> io::Result<()> {
     let mut text = [0; 2 * MORE];
     let mut words = [0; LEAST + SCALAR * MOST];
     write_letters(&mut text, MORE);
     write_scalars(&mut words, MOST);
     let rows = one(Record::query_root_operation_type());
     case(
+        rt,
         b"1,024 types",
         Call::Records,
         &text,
@@ -56,10 +58,11 @@ fn types() {
         20,
         Want::rows(1, MOST),
         &rows,
-    );
+    )?;
     let mut more = [0; LEAST + SCALAR * MORE];
     write_scalars(&mut more, MORE);
     case(
+        rt,
         b"1,025 types",
         Call::Records,
         &text,
@@ -69,17 +72,18 @@ fn types() {
         20,
         Want::table(Refusal::ABOVE_LIMIT),
         &[],
-    );
+    )
 }
 
 // Both repeats are told against the first.
-fn arguments() {
+fn arguments(rt: &impl Print) -> io::Result<()> {
     let query = TypeRow(0);
     let rows = two(
         Record::unique_input_value(query, 0, 1),
         Record::unique_input_value(query, 0, 2),
     );
     case(
+        rt,
         b"three equal arguments",
         Call::Records,
         b"IDQueryax",
@@ -89,13 +93,14 @@ fn arguments() {
         20,
         Want::rows(2, 1),
         &rows,
-    );
+    )
 }
 
 // Less than a header, and nothing but a header and roots.
-fn least() {
+fn least(rt: &impl Print) -> io::Result<()> {
     let six = [0; 6];
     case(
+        rt,
         b"6 words",
         Call::Records,
         b"",
@@ -105,10 +110,11 @@ fn least() {
         20,
         Want::table(Refusal::TOO_FEW_WORDS),
         &[],
-    );
+    )?;
     let none = no_types();
     let rows = one(Record::query_root_operation_type());
     case(
+        rt,
         b"no types",
         Call::Records,
         b"",
@@ -118,13 +124,21 @@ fn least() {
         20,
         Want::rows(1, 0),
         &rows,
-    );
+    )
 }
 
-fn whole(title: &[u8], number: u32, out: usize, want: Want, rows: &[u32])
+fn whole(
+    rt: &impl Print,
+    title: &[u8],
+    number: u32,
+    out: usize,
+    want: Want,
+    rows: &[u32],
+) -> io::Result<()>
     requires { out ≤ 20 }
 {
     case(
+        rt,
         title,
         Call::Records,
         b"BoardIDNodeid",
@@ -134,36 +148,45 @@ fn whole(title: &[u8], number: u32, out: usize, want: Want, rows: &[u32])
         out,
         want,
         rows,
-    );
+    )
 }
 
 // The whole case with room for its two records, and lent memory full of a number.
-fn whole_over(title: &[u8], number: u32) {
+fn whole_over(rt: &impl Print, title: &[u8], number: u32) -> io::Result<()> {
     let board = TypeRow(1);
     let rows = two(
         Record::query_root_operation_type(),
         Record::invalid_implementation_field_type(board, 0, 0, 1),
     );
-    whole(title, number, 20, Want::rows(2, 2), &rows);
+    whole(rt, title, number, 20, Want::rows(2, 2), &rows)
 }
 
 // Two records need two rows. The same call is made twice, with lent memory full of other numbers.
-fn whole_cases() {
+fn whole_cases(rt: &impl Print) -> io::Result<()> {
     whole(
+        rt,
         b"an output one row short",
         7,
         Record::WORDS,
         Want::short(2 * Record::WORDS, 2),
         &[],
-    );
-    whole_over(b"the whole case over 7", 7);
-    whole_over(b"the whole case over NONE", TypeRow::NONE.0);
+    )?;
+    whole_over(rt, b"the whole case over 7", 7)?;
+    whole_over(rt, b"the whole case over NONE", TypeRow::NONE.0)
 }
 
-fn cycle(title: &[u8], row: u32, work: usize, want: Want, rows: &[u32])
+fn cycle(
+    rt: &impl Print,
+    title: &[u8],
+    row: u32,
+    work: usize,
+    want: Want,
+    rows: &[u32],
+) -> io::Result<()>
     requires { work ≤ 3072 }
 {
     case(
+        rt,
         title,
         Call::FirstCycle(TypeRow(row)),
         b"ABSab",
@@ -173,40 +196,43 @@ fn cycle(title: &[u8], row: u32, work: usize, want: Want, rows: &[u32])
         20,
         want,
         rows,
-    );
+    )
 }
 
 // A leads to B by field 0, and B to A by field 1. Row 2 is a scalar's, and row 3 no type's. Three types need nine words of work.
-fn cycles() {
-    cycle(b"first cycle of A", 0, 3072, Want::rows(2, 3), &[0, 1]);
-    cycle(b"first cycle of B", 1, 3072, Want::rows(2, 3), &[1, 0]);
+fn cycles(rt: &impl Print) -> io::Result<()> {
+    cycle(rt, b"first cycle of A", 0, 3072, Want::rows(2, 3), &[0, 1])?;
+    cycle(rt, b"first cycle of B", 1, 3072, Want::rows(2, 3), &[1, 0])?;
     cycle(
+        rt,
         b"first cycle of a scalar",
         2,
         3072,
         Want::call(Refusal::NO_INPUT_OBJECT),
         &[],
-    );
+    )?;
     cycle(
+        rt,
         b"first cycle of no type",
         3,
         3072,
         Want::call(Refusal::NO_INPUT_OBJECT),
         &[],
-    );
+    )?;
     cycle(
+        rt,
         b"work one word short",
         0,
         8,
         Want::call(Refusal::SHORT_WORK),
         &[],
-    );
+    )
 }
 
-fn main() {
-    types();
-    arguments();
-    least();
-    whole_cases();
-    cycles();
+fn main(rt: HostRuntime) -> io::Result<()> {
+    types(&rt)?;
+    arguments(&rt)?;
+    least(&rt)?;
+    whole_cases(&rt)?;
+    cycles(&rt)
 }

@@ -1,6 +1,9 @@
 // Words and bytes from standard input. Where it has ended they are 0.
-ghost use Rattle.std.specs.Prelude.{◌≤◌};
+ghost use Rattle.std.specs.Prelude.{◌≤◌, IfOk, length};
 ghost use Rattle.cases.specs.Head.{Sized};
+
+use std::io;
+use std::io::Read;
 
 // The head of a case. A length above 4,096 is cut to that, and the cases behind it then come out wrong: no case of the file is so long.
 #[derive(Clone, Copy)]
@@ -17,10 +20,25 @@ pub struct Head {
     pub rule: u32,
 }
 
-pub(crate) fn read_word() -> u32 {
+// Reads until the bytes are full or the input has ended, and answers how many were read; those behind them are left as they were.
+fn read_full(input: &mut impl Read, b: &mut [u8]) -> io::Result<usize>
+    ensures { IfOk result (λ n. n ≤ length b.new) }
+{
+    let mut read = 0;
+    while read < b.len() {
+        let n = input.read(&mut b[read..])?;
+        if n == 0 {
+            break;
+        }
+        read += n;
+    }
+    Ok(read)
+}
+
+pub(crate) fn read_word(input: &mut impl Read) -> io::Result<u32> {
     let mut b = [0; 4];
-    io::read_full(0, &mut b);
-    wide(b[0]) + 256 * wide(b[1]) + 65536 * wide(b[2]) + 16777216 * wide(b[3])
+    read_full(input, &mut b)?;
+    Ok(wide(b[0]) + 256 * wide(b[1]) + 65536 * wide(b[2]) + 16777216 * wide(b[3]))
 }
 
 fn wide(b: u8) -> u32
@@ -29,27 +47,27 @@ fn wide(b: u8) -> u32
     b as u32
 }
 
-fn read_length() -> usize
-    ensures { result ≤ 4096 }
+fn read_length(input: &mut impl Read) -> io::Result<usize>
+    ensures { IfOk result (λ n. n ≤ 4096) }
 {
-    let n = read_word();
-    if n <= 4096 { n as usize } else { 4096 }
+    let n = read_word(input)?;
+    if n <= 4096 { Ok(n as usize) } else { Ok(4096) }
 }
 
-pub(crate) fn read_head() -> Head
-    ensures { Sized result }
+pub(crate) fn read_head(input: &mut impl Read) -> io::Result<Head>
+    ensures { IfOk result Sized }
 {
-    let call = read_word();
-    let text = read_length();
-    let words = read_length();
-    let row = read_word();
-    let evidence = read_length();
-    let work = read_length();
-    let out = read_length();
-    let number = read_word();
-    let value = read_word();
-    let rule = read_word();
-    Head {
+    let call = read_word(input)?;
+    let text = read_length(input)?;
+    let words = read_length(input)?;
+    let row = read_word(input)?;
+    let evidence = read_length(input)?;
+    let work = read_length(input)?;
+    let out = read_length(input)?;
+    let number = read_word(input)?;
+    let value = read_word(input)?;
+    let rule = read_word(input)?;
+    Ok(Head {
         call,
         text,
         words,
@@ -60,31 +78,34 @@ pub(crate) fn read_head() -> Head
         number,
         value,
         rule,
-    }
+    })
 }
 
-fn skip_byte() {
+fn skip_byte(input: &mut impl Read) -> io::Result<()> {
     let mut b = [0; 1];
-    io::read_full(0, &mut b);
+    read_full(input, &mut b)?;
+    Ok(())
 }
 
 // Text is padded to whole words.
-pub(crate) fn read_text(text: &mut [u8]) {
-    io::read_full(0, text);
+pub(crate) fn read_text(input: &mut impl Read, text: &mut [u8]) -> io::Result<()> {
+    read_full(input, text)?;
     let mut read = text.len() % 4;
     if read == 0 {
-        return;
+        return Ok(());
     }
     while read < 4 {
-        skip_byte();
+        skip_byte(input)?;
         read += 1;
     }
+    Ok(())
 }
 
-pub(crate) fn read_words(words: &mut [u32]) {
+pub(crate) fn read_words(input: &mut impl Read, words: &mut [u32]) -> io::Result<()> {
     let mut i = 0;
     while i < words.len() {
-        words[i] = read_word();
+        words[i] = read_word(input)?;
         i += 1;
     }
+    Ok(())
 }

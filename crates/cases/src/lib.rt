@@ -15,6 +15,8 @@ use lhakvuni::answer::{Answer, number};
 use lhakvuni::calls::{check_table, first_cycle, records};
 use lhakvuni::judging::{Judgement, check_evidence};
 use lhakvuni::making::make_evidence;
+use std::io;
+use std::io::{BufReader, Read};
 use table::numbers::TypeRow;
 
 mod input;
@@ -119,27 +121,38 @@ fn call_right(
 }
 
 // Reads the text, the table and the evidence of a case into the buffers.
-fn read_inputs(head: Head, texts: &mut [u8], tables: &mut [u32], evidence: &mut [u32])
+fn read_inputs(
+    input: &mut impl Read,
+    head: Head,
+    texts: &mut [u8],
+    tables: &mut [u32],
+    evidence: &mut [u32],
+) -> io::Result<()>
     requires sized { Sized head }
     requires in_bounds { (4096 ≤ length texts.old) × (4096 ≤ length tables.old) × (4096 ≤ length evidence.old) }
 {
     let bytes = head.text;
     let rows = head.words;
     let marks = head.evidence;
-    read_text(&mut texts[..bytes]);
-    read_words(&mut tables[..rows]);
-    read_words(&mut evidence[..marks]);
+    read_text(input, &mut texts[..bytes])?;
+    read_words(input, &mut tables[..rows])?;
+    read_words(input, &mut evidence[..marks])
 }
 
 // Reads a work table and an output.
-fn read_memory(head: Head, works: &mut [u32], outs: &mut [u32])
+fn read_memory(
+    input: &mut impl Read,
+    head: Head,
+    works: &mut [u32],
+    outs: &mut [u32],
+) -> io::Result<()>
     requires sized { Sized head }
     requires in_bounds { (4096 ≤ length works.old) × (4096 ≤ length outs.old) }
 {
     let work = head.work;
     let out = head.out;
-    read_words(&mut works[..work]);
-    read_words(&mut outs[..out]);
+    read_words(input, &mut works[..work])?;
+    read_words(input, &mut outs[..out])
 }
 
 // Makes the call of a case on the buffers.
@@ -186,7 +199,7 @@ fn memory_right(
 }
 
 // Reads a case behind its head, makes its call, and compares the answer and all lent words.
-fn run_case(head: Head) -> bool
+fn run_case(input: &mut impl Read, head: Head) -> io::Result<bool>
     requires { Sized head }
 {
     let mut texts = [0; 4096];
@@ -196,11 +209,11 @@ fn run_case(head: Head) -> bool
     let mut outs = [0; 4096];
     let mut works_after = [0; 4096];
     let mut outs_after = [0; 4096];
-    read_inputs(head, &mut texts, &mut tables, &mut evidence);
-    read_memory(head, &mut works, &mut outs);
-    read_memory(head, &mut works_after, &mut outs_after);
+    read_inputs(input, head, &mut texts, &mut tables, &mut evidence)?;
+    read_memory(input, head, &mut works, &mut outs)?;
+    read_memory(input, head, &mut works_after, &mut outs_after)?;
     let right = case_right(head, &texts, &tables, &evidence, &mut works, &mut outs);
-    right & memory_right(head, &works, &outs, &works_after, &outs_after)
+    Ok(right & memory_right(head, &works, &outs, &works_after, &outs_after))
 }
 
 // How many cases of each call were run, and how many were right.
@@ -224,28 +237,26 @@ impl Tally {
     }
 }
 
-fn report(name: &[u8], right: u64, ran: u64) {
+fn report(rt: &impl Print, name: &[u8], right: u64, ran: u64) -> io::Result<()> {
     if ran == 0 {
-        return;
+        return Ok(());
     }
-    io::write_all(1, name);
-    io::write_all(1, b": ");
-    io::print_decimal(1, right);
-    io::write_all(1, b" of ");
-    io::print_decimal(1, ran);
-    io::write_all(1, b" right\n");
+    rt.write_all(name)?;
+    println!(rt; ": {right} of {ran} right")
 }
 
-fn report_all(tally: Tally) {
-    report(b"check_table", tally.right[1], tally.ran[1]);
-    report(b"records", tally.right[2], tally.ran[2]);
-    report(b"first_cycle", tally.right[3], tally.ran[3]);
-    report(b"check_evidence", tally.right[4], tally.ran[4]);
-    report(b"make_evidence", tally.right[5], tally.ran[5]);
+fn report_all(rt: &impl Print, tally: Tally) -> io::Result<()> {
+    report(rt, b"check_table", tally.right[1], tally.ran[1])?;
+    report(rt, b"records", tally.right[2], tally.ran[2])?;
+    report(rt, b"first_cycle", tally.right[3], tally.ran[3])?;
+    report(rt, b"check_evidence", tally.right[4], tally.ran[4])?;
+    report(rt, b"make_evidence", tally.right[5], tally.ran[5])
 }
 
 // Runs every case of standard input. What it reads and writes no contract can say.
-pub fn run() {
+pub fn run(rt: &(impl Input + Print + AllocGlobal)) -> io::Result<()> {
+    // A case is read four bytes at a time, so the input is read ahead.
+    let mut input = BufReader::new(rt.alloc(), rt.reader())?;
     let mut tally = Tally {
         ran: [0; 6],
         right: [0; 6],
@@ -253,12 +264,12 @@ pub fn run() {
     let mut turns: u64 = 0;
     while turns < 1000000 {
         turns += 1;
-        let head = read_head();
+        let head = read_head(&mut input)?;
         if head.call == 0 {
             break;
         }
-        let right = run_case(head);
+        let right = run_case(&mut input, head)?;
         tally = tally.add(head.call, right);
     }
-    report_all(tally);
+    report_all(rt, tally)
 }

@@ -2,6 +2,8 @@
 // answer. compare/sample.py made it.
 #![tactic(auto)]
 
-fn main() {
-    cases::run();
+use std::io;
+
+fn main(rt: HostRuntime) -> io::Result<()> {
+    cases::run(&rt)
 }

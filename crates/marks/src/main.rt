@@ -12,15 +12,15 @@ use shapes::{
     LADDER_FIELDS, LADDER_WORDS, RING_FIELDS, RING_WORDS, Shape, TEXT, TYPES, write_table,
     write_text,
 };
+use std::io;
 use table::layout::{layout_of, wide};
 use table::numbers::TypeRow;
 use wellformed::check::{Verdict, check_table};
 
 const WORDS: usize = EvidenceColumn::COUNT * TYPES;
 
-fn print(n: usize) {
-    io::write_all(1, b" ");
-    io::print_decimal(1, n as u64);
+fn print(rt: &impl Print, n: usize) -> io::Result<()> {
+    print!(rt; " {n}")
 }
 
 // How many of the first types are marked.
@@ -38,17 +38,15 @@ fn count_marked(ev: &[u32], types: usize) -> usize
     n
 }
 
-fn print_answer(answer: Judged) {
+fn print_answer(rt: &impl Print, answer: Judged) -> io::Result<()> {
     match answer {
-        Judged::Pass => {
-            io::write_all(1, b" passes\n");
-        }
+        Judged::Pass => println!(rt; " passes"),
         Judged::Broken { row, rule } => {
-            io::write_all(1, b" row");
-            print(wide(row.0));
-            io::write_all(1, b" rule");
-            print(wide(rule));
-            io::write_all(1, b"\n");
+            print!(rt; " row")?;
+            print(rt, wide(row.0))?;
+            print!(rt; " rule")?;
+            print(rt, wide(rule))?;
+            println!(rt)
         }
     }
 }
@@ -66,6 +64,7 @@ fn change(ev: &mut [u32], t: TypeRow, k: EvidenceColumn) {
 
 // Makes the evidence, prints how many types it marks and the judge's answer; and the answer again with one word changed.
 fn run(
+    rt: &impl Print,
     label: &[u8],
     text: &[u8],
     words: &[u32],
@@ -73,34 +72,32 @@ fn run(
     k: EvidenceColumn,
     work: &mut [u32],
     out: &mut [u32],
-) {
-    io::write_all(1, label);
+) -> io::Result<()> {
+    rt.write_all(label)?;
     let Verdict::WellFormed = check_table(text, words) else {
-        io::write_all(1, b" refused\n");
-        return;
+        return println!(rt; " refused");
     };
     let l = layout_of(words);
     let need = EvidenceColumn::COUNT * l.types;
     if work.len() < need {
-        io::write_all(1, b" no room\n");
-        return;
+        return println!(rt; " no room");
     }
     if out.len() < need {
-        io::write_all(1, b" no room\n");
-        return;
+        return println!(rt; " no room");
     }
     make_evidence(words, l, work, out);
-    print(count_marked(out, l.types));
-    print_answer(check_evidence(words, l, out));
+    print(rt, count_marked(out, l.types))?;
+    print_answer(rt, check_evidence(words, l, out))?;
     change(out, t, k);
-    io::write_all(1, label);
-    print_answer(check_evidence(words, l, out));
+    rt.write_all(label)?;
+    print_answer(rt, check_evidence(words, l, out))
 }
 
-fn ring(text: &[u8], work: &mut [u32], out: &mut [u32]) {
+fn ring(rt: &impl Print, text: &[u8], work: &mut [u32], out: &mut [u32]) -> io::Result<()> {
     let mut words = [0; RING_WORDS];
     write_table(&mut words, Shape::Ring, RING_FIELDS);
     run(
+        rt,
         b"ring",
         text,
         &words,
@@ -108,13 +105,14 @@ fn ring(text: &[u8], work: &mut [u32], out: &mut [u32]) {
         EvidenceColumn::OutDistance,
         work,
         out,
-    );
+    )
 }
 
-fn ladder(text: &[u8], work: &mut [u32], out: &mut [u32]) {
+fn ladder(rt: &impl Print, text: &[u8], work: &mut [u32], out: &mut [u32]) -> io::Result<()> {
     let mut words = [0; LADDER_WORDS];
     write_table(&mut words, Shape::Ladder, LADDER_FIELDS);
     run(
+        rt,
         b"ladder",
         text,
         &words,
@@ -122,14 +120,14 @@ fn ladder(text: &[u8], work: &mut [u32], out: &mut [u32]) {
         EvidenceColumn::Number,
         work,
         out,
-    );
+    )
 }
 
-fn main() {
+fn main(rt: HostRuntime) -> io::Result<()> {
     let mut text = [0; TEXT];
     let mut work = [0; WORDS];
     let mut out = [0; WORDS];
     write_text(&mut text);
-    ring(&text, &mut work, &mut out);
-    ladder(&text, &mut work, &mut out);
+    ring(&rt, &text, &mut work, &mut out)?;
+    ladder(&rt, &text, &mut work, &mut out)
 }

@@ -13,6 +13,7 @@ use shapes::{
     LADDER_FIELDS, LADDER_WORDS, RING_FIELDS, RING_WORDS, Shape, TEXT, TYPES, write_table,
     write_text,
 };
+use std::io;
 use table::layout::{Layout, layout_of, wide};
 use table::numbers::TypeRow;
 use wellformed::check::{Verdict, check_table};
@@ -29,9 +30,8 @@ fn in_order(out: &[u32], t: u32) -> usize {
     n
 }
 
-fn print(n: usize) {
-    io::write_all(1, b" ");
-    io::print_decimal(1, n as u64);
+fn print(rt: &impl Print, n: usize) -> io::Result<()> {
+    print!(rt; " {n}")
 }
 
 // The first cycle of type t, with work words that are cleared and what the fields lead to.
@@ -47,49 +47,54 @@ fn find(words: &[u32], l: Layout, t: TypeRow, work: &mut [u32], out: &mut [u32])
 }
 
 // Prints the count of type t, and how many rows of its first cycle are those of the ring from t on.
-fn search(label: &[u8], text: &[u8], words: &[u32], t: u32, work: &mut [u32], out: &mut [u32]) {
-    io::write_all(1, label);
+fn search(
+    rt: &impl Print,
+    label: &[u8],
+    text: &[u8],
+    words: &[u32],
+    t: u32,
+    work: &mut [u32],
+    out: &mut [u32],
+) -> io::Result<()> {
+    rt.write_all(label)?;
     let Verdict::WellFormed = check_table(text, words) else {
-        io::write_all(1, b" refused\n");
-        return;
+        return println!(rt; " refused");
     };
     let l = layout_of(words);
     let room = Work { types: l.types }.size();
     if wide(t) >= l.types {
-        io::write_all(1, b" no type\n");
-        return;
+        return println!(rt; " no type");
     }
     if work.len() < room {
-        io::write_all(1, b" no room\n");
-        return;
+        return println!(rt; " no room");
     }
     let n = find(words, l, TypeRow(t), work, out);
-    print(n);
+    print(rt, n)?;
     if n <= out.len() {
-        print(in_order(&out[..n], t));
+        print(rt, in_order(&out[..n], t))?;
     }
-    io::write_all(1, b"\n");
+    println!(rt)
 }
 
-fn ring(text: &[u8], work: &mut [u32], out: &mut [u32]) {
+fn ring(rt: &impl Print, text: &[u8], work: &mut [u32], out: &mut [u32]) -> io::Result<()> {
     let mut words = [0; RING_WORDS];
     write_table(&mut words, Shape::Ring, RING_FIELDS);
-    search(b"ring", text, &words, 0, work, out);
-    search(b"ring", text, &words, 1000, work, out);
+    search(rt, b"ring", text, &words, 0, work, out)?;
+    search(rt, b"ring", text, &words, 1000, work, out)
 }
 
-fn ladder(text: &[u8], work: &mut [u32], out: &mut [u32]) {
+fn ladder(rt: &impl Print, text: &[u8], work: &mut [u32], out: &mut [u32]) -> io::Result<()> {
     let mut words = [0; LADDER_WORDS];
     write_table(&mut words, Shape::Ladder, LADDER_FIELDS);
-    search(b"ladder", text, &words, 0, work, out);
-    search(b"ladder", text, &words, 1022, work, out);
+    search(rt, b"ladder", text, &words, 0, work, out)?;
+    search(rt, b"ladder", text, &words, 1022, work, out)
 }
 
-fn main() {
+fn main(rt: HostRuntime) -> io::Result<()> {
     let mut text = [0; TEXT];
     let mut work = [0; Work::WORDS * TYPES];
     let mut out = [0; TYPES];
     write_text(&mut text);
-    ring(&text, &mut work, &mut out);
-    ladder(&text, &mut work, &mut out);
+    ring(&rt, &text, &mut work, &mut out)?;
+    ladder(&rt, &text, &mut work, &mut out)
 }

@@ -1,7 +1,7 @@
 -- Edges: 3; 8; 9; 10; 11 or 12 per interface argument, then 13. Type t has the edges `edges` from row `edgesFirst` on, and the fields `fields`
 -- from row `fieldsFirst` on. 8 to 13 run over defined edges only: viaEdge is such an edge's row, and interfaceType the row of its type.
 -- What the interface asks for, its edges, are `demanded`, from row `demandedFirst` on.
-use Rattle.std.specs.Prelude.{Bool, not, List, ◌∷◌, [], ◌++◌, ℕ, ◌+◌, eqb}
+use Rattle.std.specs.Prelude.{not, List, ◌∷◌, [], ◌++◌, ℕ, ◌+◌, eqb}
 use Rattle.table.specs.Layout.{type_name, edges_start}
 use Rattle.records.specs.declared.Record.{Record}
 use Rattle.records.specs.Records.{each, when}

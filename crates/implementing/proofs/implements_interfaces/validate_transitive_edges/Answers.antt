@@ -1,11 +1,9 @@
 use borrow.Author.Rules.{rules}
 use native.Mathlib.Omega.{arith}
 use Rattle.records.proofs.Records.{each_zero, each_more, emit_none, emit_seq}
-use Rattle.records.specs.Records.{each}
-use Rattle.implementing.specs.Interface.{transitive_edge, transitive_edges}
+use Rattle.implementing.specs.Interface.{transitive_edges}
 use mathlib.Core.Path.{◌≡◌}
-use Prim.Native.Nat.{◌-◌}
-use Rattle.rows.specs.Parts.{edge_rows, edges_of}
+use Rattle.rows.specs.Parts.{edge_rows}
 use Rattle.implementing.proofs.implements_interfaces.validate_transitive_edges.Goals as goal
 
 pub loop-i-init : goal.loop-i-init

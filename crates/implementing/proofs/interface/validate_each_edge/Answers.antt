@@ -1,10 +1,8 @@
 use borrow.Author.Rules.{rules}
 use native.Mathlib.Omega.{arith}
 use Rattle.records.proofs.Records.{each_zero, each_more, emit_none, emit_seq}
-use Rattle.records.specs.Records.{each}
 use Rattle.implementing.specs.Rules.{each_edge}
 use mathlib.Core.Path.{◌≡◌}
-use Prim.Native.Nat.{◌-◌}
 use Rattle.rows.specs.Parts.{edge_rows}
 use Rattle.implementing.proofs.interface.validate_each_edge.Goals as goal
 

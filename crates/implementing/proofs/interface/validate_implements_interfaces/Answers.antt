@@ -1,11 +1,8 @@
 -- The second list is written to the tail behind the first.
-  statement,
-}
 use native.Mathlib.Omega.{arith}
 use Rattle.records.proofs.Records.{emit_seq}
 use Rattle.implementing.specs.Rules.{each_edge, edge_rule, defined_edge, defined_rule}
 use Rattle.implementing.specs.Interface.{implements_records, defined_edges}
-use Rattle.implementing.proofs.interface.validate_implements_interfaces.Statement.{
 use Rattle.implementing.proofs.interface.validate_implements_interfaces.Goals as goal
 
 pub returns : goal.returns

@@ -10,12 +10,29 @@ use Rattle.links.specs.Chains.{Graph}
 use Rattle.chains.specs.Cycles.{LexLe, LexLe.nil, LexLe.less, LexLe.same, FirstCycle, NoCycle}
 use Rattle.chains.specs.Answer.{CycleRows, CycleCount, CycleAnswered}
 
+-- The same at four lists, two of them equal to the others: a match asks for no equation of a list with itself.
+lex_both : {fs gs hs is : List ℕ} → LexLe fs gs → LexLe hs is → gs ≡ hs → fs ≡ is → fs ≡ gs
+lex_both nil nil e k = cc
+lex_both nil (less h) e k = cc
+lex_both nil (same q) e k = cc
+lex_both (less h) nil e k = cc
+lex_both (less {f} {g} h) (less {f = a} {g = b} i) e k =
+    let x : g ≡ a = cc in
+    let y : f ≡ b = cc in
+    absurd (omega arith)
+lex_both (less {f} {g} h) (same {f = a} q) e k =
+    let x : g ≡ a = cc in
+    let y : f ≡ a = cc in
+    absurd (omega arith)
+lex_both (same p) nil e k = cc
+lex_both (same {f} p) (less {f = a} {g = b} i) e k =
+    let x : f ≡ a = cc in
+    let y : f ≡ b = cc in
+    absurd (omega arith)
+lex_both (same {f} p) (same q) e k = ap (λ l. f ∷ l) (lex_both p q (cc) (cc))
+
 pub lex_antisym : {fs gs : List ℕ} → LexLe fs gs → LexLe gs fs → fs ≡ gs
-lex_antisym nil nil = refl
-lex_antisym (less h) (less k) = absurd (omega arith)
-lex_antisym (less h) (same q) = absurd (omega arith)
-lex_antisym (same p) (less k) = absurd (omega arith)
-lex_antisym (same {f} p) (same q) = ap (λ l. f ∷ l) (lex_antisym p q)
+lex_antisym p q = lex_both p q refl refl
 
 module _ (g : Graph) (t : ℕ) where
   pub first_unique : (fs gs : List ℕ) → FirstCycle g t fs → FirstCycle g t gs → fs ≡ gs

@@ -1,9 +1,9 @@
 -- The search from t: where it begins, and what its answer is once the marks of the search are taken away. k is the number of types, as the
 -- code holds it.
 use mathlib.Core.Path.{◌≡◌, refl, ap, sym, ◌∙◌}
-use mathlib.Core.Logic.{◌⊎◌, ◌≢◌, inl, inr, ⊎_elim}
+use mathlib.Core.Logic.{◌≢◌, inl, inr, ⊎_elim}
 use mathlib.Core.List.{List, ◌∷◌, [], ◌++◌}
-use Prim.Native.Nat.{ℕ, suc, ◌+◌, ◌≤◌, ◌<◌}
+use Prim.Native.Nat.{ℕ, suc, ◌≤◌, ◌<◌}
 use native.Mathlib.Omega.{arith}
 use lib.ListN.{length, get_or, set, take, drop, length-set, take-append-drop}
 use lib.Seq.{get_or-take, get_or-set_same, get_or-set_other, drop-set-lt, length-take-le, ext_get_or}

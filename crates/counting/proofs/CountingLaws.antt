@@ -1,12 +1,12 @@
 -- The work table while the counts are filled in behind the marks. k is the number of types, as the code holds it.
 use mathlib.Core.Path.{◌≡◌, refl, ap, ◌∙◌}
 use mathlib.Core.Logic.{⊎_elim}
-use mathlib.Core.List.{List, ◌++◌}
+use mathlib.Core.List.{List}
 use Prim.Native.Nat.{ℕ, ◌+◌, ◌*◌, ◌≤◌, ◌<◌}
 use native.Mathlib.Omega.{arith}
 use lib.Dec.{eqb}
-use lib.ListN.{length, get_or, set, drop, replicate, length-set, length-replicate, length-drop, length-append}
-use lib.Seq.{get_or-set_same, get_or-set_other, drop-set-lt, drop_at, get_or-take, get_or-drop}
+use lib.ListN.{length, get_or, set, drop, length-set}
+use lib.Seq.{get_or-set_same, get_or-set_other, drop-set-lt, get_or-take, get_or-drop}
 use borrow.Author.Tests.{eqb-true, eqb-false}
 use Rattle.names.proofs.BoolLaws.{decide}
 use Rattle.links.specs.Chains.{Graph}

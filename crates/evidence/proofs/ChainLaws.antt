@@ -82,11 +82,11 @@ input_owners w t f u h c = (chain_field_lem w t f u h c).input
 
 -- chains of a well-formed table's graph are chains of its chain fields
 module _ {text w : List ℕ} (s : Sound text w) where
-  path_fields : {t u : ℕ} {fs vs : List ℕ} → t < type_count w → PathTo (chain_graph w) u t fs vs → FieldsTo w u t
+  path_fields : {u t : ℕ} {fs vs : List ℕ} → t < type_count w → PathTo (chain_graph w) u t fs vs → FieldsTo w u t
   path_fields {u} h (last {t} {f} c) = last (chain_field_lem w t f u h c)
   path_fields h (step {t} {f} {v} c p) = step (chain_field_lem w t f v h c) (path_fields c.type p)
 
-  fields_reach : {t u : ℕ} → FieldsTo w u t → Reaches (chain_graph w) t u
+  fields_reach : {u t : ℕ} → FieldsTo w u t → Reaches (chain_graph w) t u
   fields_reach {u} (last {t} {f} c) = reach_one (chain_graph w) (field_chain w text s t f u c)
   fields_reach (step {t} {f} {v} c p) = reach_more (chain_graph w) (field_chain w text s t f v c) (fields_reach p)
 

@@ -154,7 +154,7 @@ module _ (g : Graph) where
       (last_or_below l)
 
   -- every chain has only types on its way
-  path_via : {t u : ℕ} {fs vs : List ℕ} → PathTo g u t fs vs → Via g.types t u
+  path_via : {u t : ℕ} {fs vs : List ℕ} → PathTo g u t fs vs → Via g.types t u
   path_via (last c) = via_one g.types c
   path_via (step c p) = via_join g.types c.type (via_one g.types c) (path_via p)
 

@@ -17,12 +17,12 @@ use Rattle.evidence.proofs.Kept.{Marked, Out, In, Kept, kept}
 
 module _ (g : Graph) where
   -- one chain after another
-  path_join : {t u v : ℕ} {fs vs gs ws : List ℕ} → PathTo g u t fs vs → PathTo g v u gs ws → PathTo g v t (fs ++ gs) (vs ++ ws)
+  path_join : {u t v : ℕ} {fs vs gs ws : List ℕ} → PathTo g u t fs vs → PathTo g v u gs ws → PathTo g v t (fs ++ gs) (vs ++ ws)
   path_join (last c) q = step c q
   path_join (step c p) q = step c (path_join p q)
 
   -- where a chain ends is a type
-  path_end : {t u : ℕ} {fs vs : List ℕ} → PathTo g u t fs vs → u < g.types
+  path_end : {u t : ℕ} {fs vs : List ℕ} → PathTo g u t fs vs → u < g.types
   path_end (last c) = c.type
   path_end (step c p) = path_end p
 
@@ -89,12 +89,12 @@ module _ (g : Graph) where
         (from_leader (in_depth ev t) t l m refl)
 
     -- numbers never rise along a chain
-    number_falls : {t u : ℕ} {fs vs : List ℕ} → PathTo g u t fs vs → t < g.types → number ev u ≤ number ev t
+    number_falls : {u t : ℕ} {fs vs : List ℕ} → PathTo g u t fs vs → t < g.types → number ev u ≤ number ev t
     number_falls {u} (last {t} {f} c) l = ((row t l).lower f u c).most
     number_falls (step {t} {f} {v} c p) l = let h = ((row t l).lower f v c).most in let k = number_falls p c.type in omega arith
 
     -- and fall strictly behind an unmarked type
-    unmarked_falls : {t u : ℕ} {fs vs : List ℕ} → PathTo g u t fs vs → t < g.types → leader ev t ≡ none → number ev u < number ev t
+    unmarked_falls : {u t : ℕ} {fs vs : List ℕ} → PathTo g u t fs vs → t < g.types → leader ev t ≡ none → number ev u < number ev t
     unmarked_falls {u} (last {t} {f} c) l n = ((row t l).lower f u c).strict n
     unmarked_falls (step {t} {f} {v} c p) l n = let h = ((row t l).lower f v c).strict n in let k = number_falls p c.type in omega arith
 

@@ -1,7 +1,7 @@
 -- Laws of chains of a given length, and of types that reach each other.
 use mathlib.Core.Path.{◌≡◌, refl}
 use mathlib.Core.List.{List}
-use Prim.Native.Nat.{ℕ, suc, ◌<◌}
+use Prim.Native.Nat.{ℕ, suc}
 use Rattle.links.specs.Chains.{Graph, Chain}
 use Rattle.chains.specs.Cycles.{PathTo, PathTo.last, PathTo.step}
 use Rattle.evidence.specs.Reaches.{Reaches}
@@ -15,12 +15,12 @@ module _ (g : Graph) where
   way_zero here = refl
 
   -- one field or more: reaching
-  pub way_reaches : {t u n : ℕ} → Way g u (suc n) t → Reaches g t u
+  pub way_reaches : {u t n : ℕ} → Way g u (suc n) t → Reaches g t u
   way_reaches (more c here) = reach_one g c
   way_reaches (more c (more d w)) = reach_more g c (way_reaches (more d w))
 
   -- and the other way
-  path_way : {t u : ℕ} {fs vs : List ℕ} → PathTo g u t fs vs → (n : ℕ) × Way g u (suc n) t
+  path_way : {u t : ℕ} {fs vs : List ℕ} → PathTo g u t fs vs → (n : ℕ) × Way g u (suc n) t
   path_way (last c) = (0, more c here)
   path_way (step c p) = let (n, w) = path_way p in (suc n, more c w)
 
@@ -28,12 +28,12 @@ module _ (g : Graph) where
   reaches_way r = path_way r.2
 
   -- the last field of a chain
-  pub way_last : {t u n : ℕ} → Way g u (suc n) t → (s : ℕ) × (f : ℕ) × Way g s n t × Chain g s f u
+  pub way_last : {u t n : ℕ} → Way g u (suc n) t → (s : ℕ) × (f : ℕ) × Way g s n t × Chain g s f u
   way_last (more {t} {f} c here) = (t, f, here, c)
   way_last (more c (more d w)) = let (s, f, v, e) = way_last (more d w) in (s, f, more c v, e)
 
   -- one field more at the end
-  pub way_snoc : {t s f u n : ℕ} → Way g s n t → Chain g s f u → Way g u (suc n) t
+  pub way_snoc : {s t f u n : ℕ} → Way g s n t → Chain g s f u → Way g u (suc n) t
   way_snoc here c = more c here
   way_snoc (more d w) c = more d (way_snoc w c)
 

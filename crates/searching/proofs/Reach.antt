@@ -3,13 +3,13 @@
 use mathlib.Core.Path.{◌≡◌, refl, ap, sym, subst, ◌∙◌}
 use mathlib.Core.Logic.{inl, inr, ⊎_elim, ◌≢◌}
 use mathlib.Core.List.{List, ◌++◌}
-use Prim.Native.Nat.{ℕ, suc, zero, ◌+◌, ◌*◌, ◌≤◌, ◌<◌}
+use Prim.Native.Nat.{ℕ, suc, zero, ◌+◌, ◌≤◌, ◌<◌}
 use native.Mathlib.Omega.{arith}
 use native.Mathlib.Numerals.{add-one}
 use lib.ListN.{length, get_or, set, drop, replicate, length-set, length-append, length-replicate, length-drop, get_or-append, get_or-replicate}
 use lib.Seq.{get_or-set_same, get_or-set_other, drop-set-lt, drop_at}
 use Rattle.links.specs.Chains.{Graph}
-use Rattle.evidence.specs.Canonical.{Count, Count.empty, Count.with, Count.without, Way.more}
+use Rattle.evidence.specs.Canonical.{Count, Count.empty, Count.with, Count.without}
 use Rattle.chains.specs.Work.{trail_at}
 use Rattle.searching.specs.Search.{MarkedIn, MarksListed, Grown, Entered, Visited, Cleared}
 use Rattle.evidence.proofs.TestLaws.{last_or_below}

@@ -23,7 +23,7 @@ compile() {
 }
 
 say "building the archive, and proving what is not proved yet: a line for each crate"
-rt staticlib lhakvuni >&2 || exit 1
+sh tools/archive.sh >&2 || exit 1
 compile now target/staticlib/liblhakvuni.a || exit 1
 if [ -z "$old" ]; then
     say "timing"

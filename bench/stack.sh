@@ -12,7 +12,7 @@ mkdir -p target/bench
 if [ -z "$archive" ]; then
     archive=target/staticlib/liblhakvuni.a
     say "building the archive, and proving what is not proved yet: a line for each crate"
-    rt staticlib lhakvuni >&2 || exit 1
+    sh tools/archive.sh >&2 || exit 1
 fi
 say "compiling target/bench/stack with $archive"
 ${CC:-cc} -O2 -Iinclude bench/stack.c bench/calls.c bench/families.c "$archive" -o target/bench/stack || exit 1

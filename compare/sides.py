@@ -26,7 +26,7 @@ def build_rust():
 
 def build_drive(archive=ARCHIVE, include=INCLUDE):
     if not os.path.exists(archive):
-        raise SystemExit("%s is not there: make it with `rt staticlib lhakvuni`" % os.path.relpath(archive, ROOT))
+        raise SystemExit("%s is not there: make it with `sh tools/archive.sh`" % os.path.relpath(archive, ROOT))
     os.makedirs(BUILT, exist_ok=True)
     program = os.path.join(BUILT, "drive")
     subprocess.run(["cc", "-O2", "-Wall", "-Wextra", "-I", include, os.path.join(HERE, "drive.c"), archive, "-o", program],

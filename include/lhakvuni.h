@@ -1,7 +1,7 @@
 /*
  * Lhakvuni for C: is a GraphQL schema table well-formed, and which rules of the GraphQL specification (October 2021) does it break?
  *
- * Build the archive with `rt staticlib lhakvuni` and link target/staticlib/liblhakvuni.a (x86-64). It needs memset of the C library and
+ * Build the archive with `sh tools/archive.sh` and link target/staticlib/liblhakvuni.a (x86-64). It needs memset of the C library and
  * nothing else. examples/c/check.c is a whole program.
  *
  * What every call takes

@@ -1,5 +1,5 @@
 /*
- * Checks a schema whose type has dropped the room argument that its interface demands. After `rt staticlib lhakvuni`, from the root:
+ * Checks a schema whose type has dropped the room argument that its interface demands. After `sh tools/archive.sh`, from the root:
  *
  *     cc -Iinclude examples/c/check.c target/staticlib/liblhakvuni.a -o target/check
  *

@@ -1,4 +1,4 @@
-// The calls for C; include/lhakvuni.h says what each pointer must be. A slice is a pointer and then a length.
+// The calls as C has them: the number is returned, and what stands beside it is put in its place. crates/lhakvuni_c exports them.
 ghost use Rattle.std.specs.Prelude.{◌≡◌};
 ghost use Rattle.wellformed.specs.WellFormed.{refusal};
 ghost use Rattle.lhakvuni.specs.Answers.{value_of, broken_row, broken_rule};
@@ -25,15 +25,13 @@ fn put_value(a: Answer, value: &mut u64)
     }
 }
 
-#[unsafe(no_mangle)]
-pub extern "C" fn lv_check_table(text: &[u8], words: &[u32]) -> u32
+pub fn lv_check_table(text: &[u8], words: &[u32]) -> u32
     ensures { result ≡ refusal text.now words.now }
 {
     wellformed::check::number(check_table(text, words))
 }
 
-#[unsafe(no_mangle)]
-pub extern "C" fn lv_records(
+pub fn lv_records(
     text: &[u8],
     words: &[u32],
     work: &mut [u32],
@@ -47,8 +45,7 @@ pub extern "C" fn lv_records(
     number(a)
 }
 
-#[unsafe(no_mangle)]
-pub extern "C" fn lv_first_cycle(
+pub fn lv_first_cycle(
     text: &[u8],
     words: &[u32],
     type_row: u32,
@@ -81,8 +78,7 @@ fn put_judgement(j: Judgement, row: &mut u32, rule: &mut u32)
     }
 }
 
-#[unsafe(no_mangle)]
-pub extern "C" fn lv_check_evidence(
+pub fn lv_check_evidence(
     text: &[u8],
     words: &[u32],
     evidence: &[u32],
@@ -96,8 +92,7 @@ pub extern "C" fn lv_check_evidence(
     crate::judging::number(j)
 }
 
-#[unsafe(no_mangle)]
-pub extern "C" fn lv_make_evidence(
+pub fn lv_make_evidence(
     text: &[u8],
     words: &[u32],
     work: &mut [u32],

@@ -10,7 +10,7 @@ use Rattle.table.specs.Layout.{layout_of}
 use Rattle.names.specs.Count.{every}
 use Rattle.names.specs.Names.{starts_name, continues_name, is_name, before}
 use Rattle.names.specs.Wraps.{layers, bits, good_wrap}
-use Rattle.table.specs.Layout.{none, table_length, name_count, type_count, edge_count, field_count, argument_count, member_count, value_count, types_at, edges_at, fields_at, arguments_at, members_at, values_at, roots_at, word_at, start_at}
+use Rattle.table.specs.Layout.{none, name_count, type_count, edge_count, field_count, argument_count, member_count, value_count, types_at, edges_at, fields_at, arguments_at, members_at, values_at, roots_at, word_at, start_at}
 use Rattle.wellformed.specs.WellFormed.{in_limits, right_length, name_good, name_rises, names_right, below, wraps_good, ends_good, root_good, roots_good, types_good, all_ends_good, fields_good, arguments_good, lists_good, sections_fit, field_fits, fields_fit, sections_all_fit, fields_all_fit, words_good, rows_good, fresh, distinct, run_distinct, rows_distinct, rows_all_distinct, names_distinct, refusal_laid, refusal}
 use Rattle.wellformed.specs.Examples.{board_text, board_words}
 use Rattle.records.specs.declared.Record.{Record}
@@ -19,7 +19,7 @@ use Rattle.records.specs.Rows.{query_root_operation_type, invalid_implementation
 use Rattle.validation.specs.Validation.{records as list_of}
 use Rattle.validation.specs.Examples.{computes as computed}
 use Rattle.table.specs.Kinds.{input_object_kind}
-use Rattle.links.specs.Fields.{is_input_object, chain_graph}
+use Rattle.links.specs.Fields.{is_input_object}
 use Rattle.chains.specs.Work.{work_words}
 use Rattle.chains.proofs.Counts.{other_none}
 use Rattle.lhakvuni.specs.declared.answer.Answer.{Answer}

@@ -1,0 +1,30 @@
+-- Each check that refuses gives its number; past them the judge answers.
+use mathlib.Core.Path.{◌∙◌, ap}
+use native.Mathlib.Omega.{arith}
+use Rattle.wellformed.proofs.AnswerLaws.{verdict_sound}
+use Rattle.lhakvuni.proofs.NumberLaws.{header_there, sound_by}
+use Rattle.lhakvuni.specs.Answers.{judgement_of}
+use Rattle.lhakvuni.proofs.EvidenceLaws.{judge_table, judge_length, judge_given}
+use Rattle.lhakvuni.proofs.judging.check_evidence.Goals as goal
+
+pub overflow_mul-l : goal.overflow_mul-l
+overflow_mul-l c =
+    let h = (sound_by (verdict_sound _ _ _ c.check_table.ensures.result_value c.in_default.is) c.layout_of-l.ensures.value).laid.types_most in
+    omega (arith, h)
+
+pub returns-in-Refused : goal.returns-in-Refused
+returns-in-Refused c = judge_table _ _ _ c.check_table.ensures.result_value _ c.check_table.ensures.proper _ c.in-Refused.is
+
+pub layout_of-l-requires : goal.layout_of-l-requires
+layout_of-l-requires c = header_there (verdict_sound _ _ _ c.check_table.ensures.result_value c.in_default.is)
+
+pub returns-then-evidence-l : goal.returns-then-evidence-l
+returns-then-evidence-l c =
+    judge_length _ _ _ c.check_table.ensures.result_value _ c.in_default.is _ c.layout_of-l.ensures.value c.if-evidence-l.true
+
+pub check_evidence-requires : goal.check_evidence-requires
+check_evidence-requires c = sound_by (verdict_sound _ _ _ c.check_table.ensures.result_value c.in_default.is) c.layout_of-l.ensures.value
+
+pub returns : goal.returns
+returns c =
+    judge_given _ _ _ c.check_table.ensures.result_value _ c.in_default.is _ c.layout_of-l.ensures.value _ c.if-evidence-l.false (c.answer_of.ensures ∙ ap judgement_of c.check_evidence.ensures)

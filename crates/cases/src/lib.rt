@@ -16,7 +16,7 @@ use lhakvuni::calls::{check_table, first_cycle, records};
 use lhakvuni::judging::{Judgement, check_evidence};
 use lhakvuni::making::make_evidence;
 use std::io;
-use std::io::{BufReader, Read};
+use std::io::Read;
 use table::numbers::TypeRow;
 
 mod input;
@@ -254,9 +254,8 @@ fn report_all(rt: &impl Print, tally: Tally) -> io::Result<()> {
 }
 
 // Runs every case of standard input. What it reads and writes no contract can say.
-pub fn run(rt: &(impl Input + Print + AllocGlobal)) -> io::Result<()> {
-    // A case is read four bytes at a time, so the input is read ahead.
-    let mut input = BufReader::new(rt.alloc(), rt.reader())?;
+pub fn run(rt: &(impl Input + Print)) -> io::Result<()> {
+    let mut input = rt.reader();
     let mut tally = Tally {
         ran: [0; 6],
         right: [0; 6],

@@ -78,7 +78,7 @@ extern "C" {
 #define LV_EVIDENCE_WORDS 6
 #define LV_MOST_EVIDENCE 6144
 
-/* Bytes of stack, as bench/stack.sh measures them on x86-64, and a little more. */
+/* Bytes of stack, as bench/stack.sh measured them on x86-64 with the older kit, and a little more. Today's takes less (docs/BENCHMARK.md). */
 #define LV_STACK_CHECK_TABLE 4608UL
 #define LV_STACK_RECORDS(types) (45056UL + 160UL * (types))
 #define LV_STACK_FIRST_CYCLE(types) (29696UL + 160UL * (types))

@@ -9,7 +9,7 @@ mod code_names;
 mod schemas;
 mod show;
 
-use lhakvuni::{Answer, records};
+use lhakvuni::{Refusal, records};
 use schemas::{composed, repaired};
 use shapes::whole_case;
 use show::{show_need, show_records, show_refusal};
@@ -18,17 +18,17 @@ use std::io;
 // Checks a schema and says what there is to act on.
 fn check(
     rt: &impl Print,
-    title: &[u8],
+    title: &str,
     text: &[u8],
     words: &[u32],
     work: &mut [u32],
     out: &mut [u32],
 ) -> io::Result<()> {
-    rt.write_all(title)?;
+    print!(rt; "{title}: ")?;
     match records(text, words, work, out) {
-        Answer::Rows(n) => show_records(rt, out, n),
-        Answer::Refused(refusal) => show_refusal(rt, refusal),
-        Answer::Short(need) => show_need(rt, need),
+        Ok(n) => show_records(rt, out, n),
+        Err(Refusal::ShortOut(need)) => show_need(rt, need),
+        Err(refusal) => show_refusal(rt, refusal),
     }
 }
 
@@ -38,7 +38,7 @@ fn main(rt: HostRuntime) -> io::Result<()> {
     let text = b"BoardIDQueryWhiteboardboardroom";
     check(
         &rt,
-        b"the composed schema: ",
+        "the composed schema",
         text,
         &composed(),
         &mut work,
@@ -46,7 +46,7 @@ fn main(rt: HostRuntime) -> io::Result<()> {
     )?;
     check(
         &rt,
-        b"the repaired schema: ",
+        "the repaired schema",
         text,
         &repaired(),
         &mut work,
@@ -54,7 +54,7 @@ fn main(rt: HostRuntime) -> io::Result<()> {
     )?;
     check(
         &rt,
-        b"the whole case: ",
+        "the whole case",
         b"BoardIDNodeid",
         &whole_case::table(),
         &mut work,

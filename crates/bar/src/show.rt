@@ -2,67 +2,52 @@
 ghost use Rattle.std.specs.Prelude.{◌*◌, ◌≤◌, length};
 ghost use Rattle.records.specs.Records.{row_words};
 
-use crate::code_names::show_name;
+use crate::code_names::name_of;
+use lhakvuni::refusal::Refusal;
 use records::{Record, Word};
-use std::io;
-use table::refusal::Refusal;
+use std::{fmt, io};
 
-fn show_number(rt: &impl Print, n: u32) -> io::Result<()> {
-    print!(rt; "{n}")
-}
+const OPENED: &str = "  the board is opened";
+
+const NOT_OPENED: &str = "  the board is not opened";
 
 // A word of a record, and - for NONE.
-fn show_word(rt: &impl Print, w: u32) -> io::Result<()> {
-    if Word(w).is_none() {
-        return print!(rt; " -");
-    }
-    print!(rt; " ")?;
-    show_number(rt, w)
-}
+#[derive(Clone, Copy)]
+struct Shown(u32);
 
-// A row: its code and the code's name, then type, a, b and c.
-fn show_record(rt: &impl Print, row: &[u32]) -> io::Result<()>
-    requires { row_words ≤ length row.now }
-{
-    print!(rt; "  ")?;
-    show_number(rt, row[0])?;
-    show_name(rt, row[0])?;
-    let mut i = 1;
-    while i < Record::WORDS {
-        show_word(rt, row[i])?;
-        i += 1;
-    }
-    println!(rt)
-}
-
-// The board is opened if there is no record.
-fn show_verdict(rt: &impl Print, records: usize) -> io::Result<()> {
-    if records == 0 {
-        println!(rt; "  the board is opened")
-    } else {
-        println!(rt; "  the board is not opened")
+impl fmt::Display for Shown {
+    fn fmt<W: fmt::Write>(&self, f: &mut fmt::Formatter<W>) -> fmt::Result {
+        if Word(self.0) == Word::NONE {
+            write!(f, "-")
+        } else {
+            write!(f, "{}", self.0)
+        }
     }
 }
 
+// A row has its code and the code's name, then type, a, b and c. The board is opened if there is none.
 pub(crate) fn show_records(rt: &impl Print, out: &[u32], n: usize) -> io::Result<()>
     requires { row_words * n ≤ length out.now }
 {
     println!(rt; "records {n}")?;
-    let mut i = 0;
-    while i < n {
-        let at = Record::WORDS * i;
-        show_record(rt, &out[at..])?;
-        i += 1;
+    let (rows, _) = out.as_chunks::<{ Record::WORDS }>();
+    for [code, ty, a, b, c] in &rows[..n] {
+        println!(rt;
+            "  {code} {} {} {} {} {}",
+            name_of(*code),
+            Shown(*ty),
+            Shown(*a),
+            Shown(*b),
+            Shown(*c)
+        )?;
     }
-    show_verdict(rt, n)
+    println!(rt; "{}", if n == 0 { OPENED } else { NOT_OPENED })
 }
 
 pub(crate) fn show_refusal(rt: &impl Print, refusal: Refusal) -> io::Result<()> {
-    print!(rt; "refusal ")?;
-    show_number(rt, refusal.0)?;
-    println!(rt; "\n  the board is not opened")
+    println!(rt; "refusal {}\n{NOT_OPENED}", u32::from(refusal))
 }
 
 pub(crate) fn show_need(rt: &impl Print, need: usize) -> io::Result<()> {
-    println!(rt; "refusal 10, words needed {need}\n  the board is not opened")
+    println!(rt; "refusal 10, words needed {need}\n{NOT_OPENED}")
 }

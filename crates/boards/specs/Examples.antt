@@ -1,24 +1,19 @@
 -- The tables of the boards, by their rows.
-use Rattle.std.specs.Prelude.{List, ◌∷◌, [], ◌++◌, ℕ, ◌*◌}
+use Rattle.std.specs.Prelude.{List, ◌∷◌, [], ◌++◌, ℕ}
 use Rattle.table.specs.Kinds.{scalar, object, input_object}
 use Rattle.table.specs.Layout.{none}
 use Rattle.table.specs.Tables.{name_row, type_row, field_row, argument_row, roots_row, no_roots, Sections, no_rows, table_of}
 use Rattle.records.specs.Records.{each}
-use Rattle.building.specs.Building.{counts_row, two_letters}
+use Rattle.building.specs.Building.{counts_row}
+use Rattle.shapes.specs.Shapes.{letter_names}
 
--- scalars and nothing else, so many: the text, the names and the types
-abbrev pub scalars_text : ℕ → List ℕ
-scalars_text types = each two_letters types
-
-abbrev pub scalar_names : ℕ → List ℕ
-scalar_names types = each (λ i. name_row (2 * i) 2) types
-
+-- scalars and nothing else, so many, whose names are two letters each
 abbrev pub scalar_types : ℕ → List ℕ
 scalar_types types = each (λ i. type_row i scalar 0 0 0 0 0) types
 
 abbrev pub scalars_table : ℕ → List ℕ
 scalars_table types =
-    ((counts_row (record { names = types; types = types; edges = 0; fields = 0; arguments = 0; members = 0; values = 0 }) ++ scalar_names types) ++ scalar_types types) ++ no_roots
+    ((counts_row (record { names = types; types = types; edges = 0; fields = 0; arguments = 0; members = 0; values = 0 }) ++ letter_names types) ++ scalar_types types) ++ no_roots
 
 -- nothing but the counts and the roots
 abbrev pub empty_table : List ℕ

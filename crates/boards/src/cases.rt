@@ -2,11 +2,12 @@
 ghost use Rattle.std.specs.Prelude.{◌≡◌, ◌≤◌, length};
 ghost use Rattle.boards.specs.Wants.{want_rows, want_table, want_call, want_short};
 
+use crate::memory::Lent;
 use chains::work::Work;
-use lhakvuni::{Answer, check_table, first_cycle, records};
+use lhakvuni::{Refusal, check_table, first_cycle, records};
 use std::io;
 use table::numbers::TypeRow;
-use table::refusal::Refusal;
+use table::refusal::Malformed;
 
 #[derive(Clone, Copy)]
 pub enum Call {
@@ -15,13 +16,11 @@ pub enum Call {
     FirstCycle(TypeRow),
 }
 
-// The number of the table's check, and that of the call: a refusal's or 0; the rows, or for refusal 10 the need in words; how many words at
-// the front of the work table are 0 afterwards.
+// What the table's check and the call answer, and how many words at the front of the work table are 0 afterwards.
 #[derive(Clone, Copy)]
 pub struct Want {
-    table: u32,
-    number: u32,
-    value: usize,
+    table: Result<(), Malformed>,
+    answer: Result<usize, Refusal>,
     zeros: usize,
 }
 
@@ -32,33 +31,30 @@ impl Want {
         ensures { result ≡ want_rows n types }
     {
         Want {
-            table: 0,
-            number: 0,
-            value: n,
+            table: Ok(()),
+            answer: Ok(n),
             zeros: Work::WORDS * types,
         }
     }
 
     // A refusal of the table.
-    pub fn table(refusal: Refusal) -> Want
-        ensures { result ≡ want_table refusal.0 }
+    pub fn table(malformed: Malformed) -> Want
+        ensures { result ≡ want_table malformed }
     {
         Want {
-            table: refusal.0,
-            number: refusal.0,
-            value: 0,
+            table: Err(malformed),
+            answer: Err(Refusal::Malformed(malformed)),
             zeros: 0,
         }
     }
 
     // A refusal of the call alone, before the output's.
     pub fn call(refusal: Refusal) -> Want
-        ensures { result ≡ want_call refusal.0 }
+        ensures { result ≡ want_call refusal }
     {
         Want {
-            table: 0,
-            number: refusal.0,
-            value: 0,
+            table: Ok(()),
+            answer: Err(refusal),
             zeros: 0,
         }
     }
@@ -69,129 +65,80 @@ impl Want {
         ensures { result ≡ want_short need types }
     {
         Want {
-            table: 0,
-            number: Refusal::SHORT_OUT.0,
-            value: need,
+            table: Ok(()),
+            answer: Err(Refusal::ShortOut(need)),
             zeros: Work::WORDS * types,
         }
     }
 }
 
-// Whether all words from one place up to another are there and are one number.
-fn all(s: &[u32], from: usize, to: usize, number: u32) -> bool {
-    if s.len() < to {
-        return false;
-    }
-    let mut i = from;
-    while i < to {
-        if s[i] != number {
-            return false;
-        }
-        i += 1;
-    }
-    true
-}
-
-fn starts(s: &[u32], rows: &[u32]) -> bool {
-    if s.len() < rows.len() {
-        return false;
-    }
-    let mut i = 0;
-    while i < rows.len() {
-        if s[i] != rows[i] {
-            return false;
-        }
-        i += 1;
-    }
-    true
+fn all(words: &[u32], number: u32) -> bool {
+    words.iter().all(|word| *word == number)
 }
 
 // Whether a slice starts with these rows, and is left alone behind them.
 fn left(s: &[u32], rows: &[u32], number: u32) -> bool {
-    starts(s, rows) & all(s, rows.len(), s.len(), number)
+    s.strip_prefix(rows).is_some_and(|rest| all(rest, number))
 }
 
 // Whether a slice starts with so many words 0, and is left alone behind them.
 fn cleared(s: &[u32], zeros: usize, number: u32) -> bool {
-    all(s, 0, zeros, 0) & all(s, zeros, s.len(), number)
+    s.split_at_checked(zeros)
+        .is_some_and(|(front, rest)| all(front, 0) & all(rest, number))
 }
 
-fn answered(a: Answer, want: Want) -> bool {
-    match a {
-        Answer::Rows(n) => (want.number == 0) & (want.value == n),
-        Answer::Refused(refusal) => want.number == refusal.0,
-        Answer::Short(need) => (want.number == Refusal::SHORT_OUT.0) & (want.value == need),
+fn show_answer(rt: &impl Print, answer: Result<usize, Refusal>) -> io::Result<()> {
+    match answer {
+        Ok(n) => print!(rt; ", rows {n}"),
+        Err(Refusal::ShortOut(need)) => print!(rt; ", refusal 10, words needed {need}"),
+        Err(refusal) => print!(rt; ", refusal {}", u32::from(refusal)),
     }
 }
 
-fn show_answer(rt: &impl Print, a: Answer) -> io::Result<()> {
-    match a {
-        Answer::Rows(n) => print!(rt; ", rows {n}"),
-        Answer::Refused(refusal) => print!(rt; ", refusal {}", refusal.0),
-        Answer::Short(need) => print!(rt; ", refusal 10, words needed {need}"),
-    }
+// The rows are what the output must start with.
+#[derive(Clone, Copy)]
+pub struct Case<'a> {
+    pub title: &'a str,
+    pub call: Call,
+    pub text: &'a [u8],
+    pub words: &'a [u32],
+    pub lent: Lent,
+    pub want: Want,
+    pub rows: &'a [u32],
 }
 
-fn report(rt: &impl Print, title: &[u8], verdict: u32, a: Answer, right: bool) -> io::Result<()> {
-    rt.write_all(title)?;
-    print!(rt; ": table {verdict}")?;
-    show_answer(rt, a)?;
-    if right {
-        println!(rt; ", right")
-    } else {
-        println!(rt; ", WRONG")
+impl Case<'_> {
+    // Makes the call, with as many words as are lent.
+    fn call(self, works: &mut [u32], outs: &mut [u32]) -> Result<usize, Refusal>
+        requires { (self.lent.work ≤ length works.old) × (self.lent.out ≤ length outs.old) }
+    {
+        let work = &mut works[..self.lent.work];
+        let out = &mut outs[..self.lent.out];
+        match self.call {
+            Call::Records => records(self.text, self.words, work, out),
+            Call::FirstCycle(row) => first_cycle(self.text, self.words, row, work, out),
+        }
     }
-}
 
-// A call that is lent so many words of a work table and of an output.
-fn run(
-    call: Call,
-    text: &[u8],
-    words: &[u32],
-    works: &mut [u32],
-    work: usize,
-    outs: &mut [u32],
-    out: usize,
-) -> Answer
-    requires { (work ≤ length works.old) × (out ≤ length outs.old) }
-{
-    match call {
-        Call::Records => records(text, words, &mut works[..work], &mut outs[..out]),
-        Call::FirstCycle(row) => first_cycle(
-            text,
-            words,
-            row,
-            &mut works[..work],
-            &mut outs[..out],
-        ),
+    // What a call left in the work table and the output is what the case asks for.
+    fn left_right(self, work: &[u32], out: &[u32]) -> bool {
+        let number = self.lent.number;
+        cleared(work, self.want.zeros, number) & left(out, self.rows, number)
     }
-}
 
-// A call over so many words of work and of output, full of a number.
-pub(crate) fn case(
-    rt: &impl Print,
-    title: &[u8],
-    call: Call,
-    text: &[u8],
-    words: &[u32],
-    number: u32,
-    work: usize,
-    out: usize,
-    want: Want,
-    rows: &[u32],
-) -> io::Result<()>
-    requires { (work ≤ 3072) × (out ≤ 20) }
-{
-    let mut works = [number; 3072];
-    let mut outs = [number; 20];
-    let verdict = wellformed::check::number(check_table(text, words));
-    let a = run(call, text, words, &mut works, work, &mut outs, out);
-    let kept = cleared(&works, want.zeros, number) & left(&outs, rows, number);
-    report(
-        rt,
-        title,
-        verdict,
-        a,
-        (verdict == want.table) & answered(a, want) & kept,
-    )
+    pub fn run(self, rt: &impl Print) -> io::Result<()> {
+        let mut works = [self.lent.number; Lent::MOST_WORK];
+        let mut outs = [self.lent.number; Lent::MOST_OUT];
+        let verdict = check_table(self.text, self.words);
+        let answer = self.call(&mut works, &mut outs);
+        let answered = (verdict == self.want.table) & (answer == self.want.answer);
+        let right = answered & self.left_right(&works, &outs);
+        print!(rt;
+            "{}: table {}",
+            self.title,
+            wellformed::check::number(verdict)
+        )?;
+        show_answer(rt, answer)?;
+        println!(rt; ", {}", if right { "right" } else { "WRONG" })
+    }
 }

@@ -3,27 +3,26 @@
 // call, so that what the call leaves alone and what it writes can be told apart.
 #![tactic(auto)]
 
-ghost use Rattle.std.specs.Prelude.{◌≤◌};
-
 mod cases;
+mod memory;
 mod tables;
 
-use cases::{Call, Want, case};
+use cases::{Call, Case, Want};
+use lhakvuni::Refusal;
+use memory::Lent;
 use records::{Record, put};
-use shapes::whole_case;
+use shapes::{whole_case, write_letters};
 use std::io;
 use table::layout::Layout;
 use table::numbers::TypeRow;
-use table::refusal::Refusal;
-use tables::{equal_arguments, no_types, ring_of_two, write_letters, write_scalars};
+use table::refusal::Malformed;
+use tables::{LEAST, equal_arguments, no_types, ring_of_two, write_scalars};
 
 const MOST: usize = Layout::MOST_TYPES;
 
 const MORE: usize = MOST + 1;
 
-// The words of a table with no rows, and those that a scalar adds.
-const LEAST: usize = Layout::HEADER + Layout::ROOTS;
-
+// The words that a scalar adds.
 const SCALAR: usize = Layout::NAME + Layout::TYPE;
 
 // The words of one record, and of two.
@@ -40,39 +39,42 @@ fn two(first: Record, second: Record) -> [u32; 2 * Record::WORDS] {
     rows
 }
 
+fn most_types(rt: &impl Print, text: &[u8]) -> io::Result<()> {
+    let mut words = [0; LEAST + SCALAR * MOST];
+    write_scalars(&mut words, MOST);
+    Case {
+        title: "1,024 types",
+        call: Call::Records,
+        text,
+        words: &words,
+        lent: Lent::ALL,
+        want: Want::rows(1, MOST),
+        rows: &one(Record::query_root_operation_type()),
+    }
+    .run(rt)
+}
+
+fn more_types(rt: &impl Print, text: &[u8]) -> io::Result<()> {
+    let mut words = [0; LEAST + SCALAR * MORE];
+    write_scalars(&mut words, MORE);
+    Case {
+        title: "1,025 types",
+        call: Call::Records,
+        text,
+        words: &words,
+        lent: Lent::ALL,
+        want: Want::table(Malformed::AboveLimit),
+        rows: &[],
+    }
+    .run(rt)
+}
+
 // The most types, and one more.
 fn types(rt: &impl Print) -> io::Result<()> {
     let mut text = [0; 2 * MORE];
-    let mut words = [0; LEAST + SCALAR * MOST];
     write_letters(&mut text, MORE);
-    write_scalars(&mut words, MOST);
-    let rows = one(Record::query_root_operation_type());
-    case(
-        rt,
-        b"1,024 types",
-        Call::Records,
-        &text,
-        &words,
-        7,
-        3072,
-        20,
-        Want::rows(1, MOST),
-        &rows,
-    )?;
-    let mut more = [0; LEAST + SCALAR * MORE];
-    write_scalars(&mut more, MORE);
-    case(
-        rt,
-        b"1,025 types",
-        Call::Records,
-        &text,
-        &more,
-        7,
-        3072,
-        20,
-        Want::table(Refusal::ABOVE_LIMIT),
-        &[],
-    )
+    most_types(rt, &text)?;
+    more_types(rt, &text)
 }
 
 // Both repeats are told against the first.
@@ -82,151 +84,118 @@ fn arguments(rt: &impl Print) -> io::Result<()> {
         Record::unique_input_value(query, 0, 1),
         Record::unique_input_value(query, 0, 2),
     );
-    case(
-        rt,
-        b"three equal arguments",
-        Call::Records,
-        b"IDQueryax",
-        &equal_arguments(),
-        7,
-        3072,
-        20,
-        Want::rows(2, 1),
-        &rows,
-    )
+    Case {
+        title: "three equal arguments",
+        call: Call::Records,
+        text: b"IDQueryax",
+        words: &equal_arguments(),
+        lent: Lent::ALL,
+        want: Want::rows(2, 1),
+        rows: &rows,
+    }
+    .run(rt)
 }
 
 // Less than a header, and nothing but a header and roots.
 fn least(rt: &impl Print) -> io::Result<()> {
-    let six = [0; 6];
-    case(
-        rt,
-        b"6 words",
-        Call::Records,
-        b"",
-        &six,
-        7,
-        3072,
-        20,
-        Want::table(Refusal::TOO_FEW_WORDS),
-        &[],
-    )?;
-    let none = no_types();
-    let rows = one(Record::query_root_operation_type());
-    case(
-        rt,
-        b"no types",
-        Call::Records,
-        b"",
-        &none,
-        7,
-        3072,
-        20,
-        Want::rows(1, 0),
-        &rows,
-    )
+    Case {
+        title: "6 words",
+        call: Call::Records,
+        text: b"",
+        words: &[0; 6],
+        lent: Lent::ALL,
+        want: Want::table(Malformed::TooFewWords),
+        rows: &[],
+    }
+    .run(rt)?;
+    Case {
+        title: "no types",
+        call: Call::Records,
+        text: b"",
+        words: &no_types(),
+        lent: Lent::ALL,
+        want: Want::rows(1, 0),
+        rows: &one(Record::query_root_operation_type()),
+    }
+    .run(rt)
 }
 
-fn whole(
-    rt: &impl Print,
-    title: &[u8],
-    number: u32,
-    out: usize,
-    want: Want,
-    rows: &[u32],
-) -> io::Result<()>
-    requires { out ≤ 20 }
-{
-    case(
-        rt,
+fn whole(rt: &impl Print, title: &str, lent: Lent, want: Want, rows: &[u32]) -> io::Result<()> {
+    Case {
         title,
-        Call::Records,
-        b"BoardIDNodeid",
-        &whole_case::table(),
-        number,
-        3072,
-        out,
+        call: Call::Records,
+        text: b"BoardIDNodeid",
+        words: &whole_case::table(),
+        lent,
         want,
         rows,
-    )
+    }
+    .run(rt)
 }
 
 // The whole case with room for its two records, and lent memory full of a number.
-fn whole_over(rt: &impl Print, title: &[u8], number: u32) -> io::Result<()> {
+fn whole_over(rt: &impl Print, title: &str, number: u32) -> io::Result<()> {
     let board = TypeRow(1);
     let rows = two(
         Record::query_root_operation_type(),
         Record::invalid_implementation_field_type(board, 0, 0, 1),
     );
-    whole(rt, title, number, 20, Want::rows(2, 2), &rows)
+    let lent = Lent {
+        number,
+        work: Lent::MOST_WORK,
+        out: Lent::MOST_OUT,
+    };
+    whole(rt, title, lent, Want::rows(2, 2), &rows)
 }
 
 // Two records need two rows. The same call is made twice, with lent memory full of other numbers.
 fn whole_cases(rt: &impl Print) -> io::Result<()> {
-    whole(
-        rt,
-        b"an output one row short",
-        7,
-        Record::WORDS,
-        Want::short(2 * Record::WORDS, 2),
-        &[],
-    )?;
-    whole_over(rt, b"the whole case over 7", 7)?;
-    whole_over(rt, b"the whole case over NONE", TypeRow::NONE.0)
+    let one_row = Lent {
+        number: 7,
+        work: Lent::MOST_WORK,
+        out: Record::WORDS,
+    };
+    let want = Want::short(2 * Record::WORDS, 2);
+    whole(rt, "an output one row short", one_row, want, &[])?;
+    whole_over(rt, "the whole case over 7", 7)?;
+    whole_over(rt, "the whole case over NONE", TypeRow::NONE.0)
 }
 
 fn cycle(
     rt: &impl Print,
-    title: &[u8],
+    title: &str,
     row: u32,
-    work: usize,
+    lent: Lent,
     want: Want,
     rows: &[u32],
-) -> io::Result<()>
-    requires { work ≤ 3072 }
-{
-    case(
-        rt,
+) -> io::Result<()> {
+    Case {
         title,
-        Call::FirstCycle(TypeRow(row)),
-        b"ABSab",
-        &ring_of_two(),
-        7,
-        work,
-        20,
+        call: Call::FirstCycle(TypeRow(row)),
+        text: b"ABSab",
+        words: &ring_of_two(),
+        lent,
         want,
         rows,
-    )
+    }
+    .run(rt)
 }
 
 // A leads to B by field 0, and B to A by field 1. Row 2 is a scalar's, and row 3 no type's. Three types need nine words of work.
 fn cycles(rt: &impl Print) -> io::Result<()> {
-    cycle(rt, b"first cycle of A", 0, 3072, Want::rows(2, 3), &[0, 1])?;
-    cycle(rt, b"first cycle of B", 1, 3072, Want::rows(2, 3), &[1, 0])?;
-    cycle(
-        rt,
-        b"first cycle of a scalar",
-        2,
-        3072,
-        Want::call(Refusal::NO_INPUT_OBJECT),
-        &[],
-    )?;
-    cycle(
-        rt,
-        b"first cycle of no type",
-        3,
-        3072,
-        Want::call(Refusal::NO_INPUT_OBJECT),
-        &[],
-    )?;
-    cycle(
-        rt,
-        b"work one word short",
-        0,
-        8,
-        Want::call(Refusal::SHORT_WORK),
-        &[],
-    )
+    let all = Lent::ALL;
+    let short = Lent {
+        number: 7,
+        work: 8,
+        out: Lent::MOST_OUT,
+    };
+    let no_input_object = Want::call(Refusal::NoInputObject);
+    cycle(rt, "first cycle of A", 0, all, Want::rows(2, 3), &[0, 1])?;
+    cycle(rt, "first cycle of B", 1, all, Want::rows(2, 3), &[1, 0])?;
+    cycle(rt, "first cycle of a scalar", 2, all, no_input_object, &[])?;
+    cycle(rt, "first cycle of no type", 3, all, no_input_object, &[])?;
+    let want = Want::call(Refusal::ShortWork);
+    cycle(rt, "work one word short", 0, short, want, &[])
 }
 
 fn main(rt: HostRuntime) -> io::Result<()> {

@@ -2,70 +2,31 @@
 ghost use Rattle.std.specs.Prelude.{◌≡◌, ◌≤◌};
 ghost use Rattle.table.specs.Tables.{in_row, table_of};
 ghost use Rattle.building.specs.Building.{Added};
-ghost use Rattle.boards.specs.Examples.{scalars_text, scalar_names, scalar_types, scalars_table, empty_table, arguments_rows, ring_rows};
+ghost use Rattle.boards.specs.Examples.{scalar_types, scalars_table, empty_table, arguments_rows, ring_rows};
 
 use building::{
-    Counts, Ends, argument_row, field_row, header, name_row, no_roots, roots_row, two_letters,
-    type_row,
+    Counts, Ends, argument_row, field_row, header, name_row, no_roots, roots_row, type_row,
 };
 use names::wrap::Wrap;
+use shapes::write_letter_names;
 use table::kinds::Kind;
 use table::layout::Layout;
 use table::numbers::NameNo;
-
-const NO_ROWS: Counts = Counts {
-    names: 0,
-    types: 0,
-    edges: 0,
-    fields: 0,
-    arguments: 0,
-    members: 0,
-    values: 0,
-};
-
-const NO_ENDS: Ends = Ends {
-    edges: 0,
-    fields: 0,
-    members: 0,
-    values: 0,
-};
-
-// The name of type i is two letters, the digits of i.
-pub fn write_letters(text: &mut [u8], types: usize) -> usize
-    requires { types ≤ 1025 }
-    ensures { Added 0 (scalars_text types) text.old text.new result }
-{
-    let mut at = 0;
-    let mut i = 0;
-    while i < types {
-        at = two_letters(text, at, i);
-        i += 1;
-    }
-    at
-}
-
-fn write_names(words: &mut [u32], at: usize, types: usize) -> usize
-    requires { types ≤ 1025 }
-    ensures { Added at (scalar_names types) words.old words.new result }
-{
-    let mut next = at;
-    let mut i = 0;
-    while i < types {
-        next = name_row(words, next, (2 * i) as u32, 2);
-        i += 1;
-    }
-    next
-}
 
 fn write_types(words: &mut [u32], at: usize, types: usize) -> usize
     requires { types ≤ 1025 }
     ensures { Added at (scalar_types types) words.old words.new result }
 {
     let mut next = at;
-    let mut i = 0;
-    while i < types {
-        next = type_row(words, next, NameNo(i as u32), Kind::SCALAR, 0, NO_ENDS);
-        i += 1;
+    for i in 0..types {
+        next = type_row(
+            words,
+            next,
+            NameNo(i as u32),
+            u32::from(Kind::Scalar),
+            0,
+            Ends::ZERO,
+        );
     }
     next
 }
@@ -78,26 +39,23 @@ pub fn write_scalars(words: &mut [u32], types: usize) -> usize
     let counts = Counts {
         names: types as u32,
         types: types as u32,
-        edges: 0,
-        fields: 0,
-        arguments: 0,
-        members: 0,
-        values: 0,
+        ..Counts::ZERO
     };
     let names_at = header(words, counts);
-    let types_at = write_names(words, names_at, types);
+    let types_at = write_letter_names(words, names_at, types);
     let roots_at = write_types(words, types_at, types);
     no_roots(words, roots_at)
 }
 
-const LEAST: usize = Layout::HEADER + Layout::ROOTS;
+// The words of a table with no rows.
+pub const LEAST: usize = Layout::HEADER + Layout::ROOTS;
 
 // Nothing but the counts and the roots.
 pub fn no_types() -> [u32; LEAST]
     ensures { result ≡ empty_table }
 {
     let mut words = [0; LEAST];
-    let at = header(&mut words, NO_ROWS);
+    let at = header(&mut words, Counts::ZERO);
     no_roots(&mut words, at);
     words
 }
@@ -142,21 +100,17 @@ pub fn equal_arguments() -> [u32; EQUAL_ARGUMENTS]
     let counts = Counts {
         names: 4,
         types: 1,
-        edges: 0,
         fields: 1,
         arguments: 3,
-        members: 0,
-        values: 0,
+        ..Counts::ZERO
     };
     let at = header(&mut words, counts);
     let at = write_argument_names(&mut words, at);
     let ends = Ends {
-        edges: 0,
         fields: 1,
-        members: 0,
-        values: 0,
+        ..Ends::ZERO
     };
-    let at = type_row(&mut words, at, QUERY, Kind::OBJECT, 0, ends);
+    let at = type_row(&mut words, at, QUERY, u32::from(Kind::Object), 0, ends);
     let at = field_row(&mut words, at, FIELD, ID, Wrap::NULLABLE, 3, 0);
     let at = write_arguments(&mut words, at);
     roots_row(&mut words, at, QUERY, NameNo::NONE, NameNo::NONE);
@@ -187,20 +141,16 @@ fn write_ring_types(words: &mut [u32], at: usize) -> usize
     ensures { Added at (in_row ring_rows.types) words.old words.new result }
 {
     let first = Ends {
-        edges: 0,
         fields: 1,
-        members: 0,
-        values: 0,
+        ..Ends::ZERO
     };
     let both = Ends {
-        edges: 0,
         fields: 2,
-        members: 0,
-        values: 0,
+        ..Ends::ZERO
     };
-    let at = type_row(words, at, A, Kind::INPUT_OBJECT, 0, first);
-    let at = type_row(words, at, B, Kind::INPUT_OBJECT, 0, both);
-    type_row(words, at, S, Kind::SCALAR, 0, both)
+    let at = type_row(words, at, A, u32::from(Kind::InputObject), 0, first);
+    let at = type_row(words, at, B, u32::from(Kind::InputObject), 0, both);
+    type_row(words, at, S, u32::from(Kind::Scalar), 0, both)
 }
 
 const RING_OF_TWO: usize = Layout::HEADER
@@ -219,11 +169,8 @@ pub fn ring_of_two() -> [u32; RING_OF_TWO]
     let counts = Counts {
         names: 5,
         types: 3,
-        edges: 0,
         fields: 2,
-        arguments: 0,
-        members: 0,
-        values: 0,
+        ..Counts::ZERO
     };
     let at = header(&mut words, counts);
     let at = write_ring_names(&mut words, at);

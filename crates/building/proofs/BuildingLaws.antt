@@ -1,87 +1,79 @@
--- Words stored one after the other are a row put in, and a place beyond the end stores nothing.
+-- Rows put in one after the other are one row put in, and what is behind the end is left out.
 use mathlib.Core.Path.{◌≡◌, refl, sym, ap, ◌∙◌}
 use mathlib.Core.Logic.{⊎_elim}
-use mathlib.Core.List.{List, ◌∷◌, [], ◌++◌}
-use Prim.Native.Nat.{ℕ, zero, suc, ◌+◌, ◌≤◌, ◌<◌}
+use mathlib.Core.List.{List, ◌∷◌, [], ◌++◌, append_assoc}
+use Prim.Native.Nat.{ℕ, suc, ◌+◌, ◌-◌, ◌≤◌, ◌<◌, min}
 use native.Mathlib.Nat.{add-zero}
-use native.Mathlib.Numerals.{add-one}
 use native.Mathlib.Omega.{arith}
 use lib.Dec.{ltb}
-use lib.ListN.{length, take, get_or, set, length-append}
-use lib.Seq.{sets, set_out, take_all, length-sets}
+use lib.ListN.{length, take, drop, set, length-append, length-drop}
+use lib.Seq.{sets, sets-eq, set_out, length-sets, length-take-le, drop-drop}
 use borrow.Author.Tests.{ltb-true, ltb-false}
+use borrow.Rule.Slice.PartMut.{put_mid}
+use Rattle.std.proofs.lemmas.List.{take-append-drop}
 use Rattle.names.proofs.BoolLaws.{decide}
 use Rattle.building.specs.Building.{behind, Added}
 
--- one word more of a row
-one_more : (row w : List ℕ) (at i : ℕ) → i < length row → sets w at (take (suc i) row) ≡ set (sets w at (take i row)) (at + i) (get_or row i 0)
-one_more [] w at i h = absurd (omega arith)
-one_more (a ∷ row) w at zero h = rw add-zero
-one_more (a ∷ row) w at (suc i) h = let e : suc at + i ≡ at + suc i = omega arith in rw (← e) (one_more row (set w at a) (suc at) i (omega arith))
-
--- a word is stored behind i words, or nowhere
-stored_behind : (w : List ℕ) (at i word : ℕ) → set w (behind at i (length w)) word ≡ set w (at + i) word
-stored_behind w at i word =
-    ⊎_elim
-    (λ b. let h = ltb-true (at + i) (length w) b in
-    let e : behind at i (length w) ≡ at + i = omega arith in
-    rw e)
-    (λ b. let h = ltb-false (at + i) (length w) b in
-    let l : length w ≤ behind at i (length w) = omega arith in
-    set_out w (behind at i (length w)) word l ∙ sym (set_out w (at + i) word h))
-    (decide (ltb (at + i) (length w)))
-
--- the turn of the loop that stores word i of a row
-pub stored_next : (row w W : List ℕ) (at i place : ℕ) → i < length row → W ≡ sets w at (take i row) → length W ≡ length w → place ≡ behind at i (length w)
-    → set W place (get_or row i 0) ≡ sets w at (take (i + 1) row)
-stored_next row w W at i place h e s p =
-    let q : place ≡ behind at i (length W) = rw s p in
-    rw (add-one, one_more row w at i h, ← e, q) (stored_behind W at i (get_or row i 0))
-
--- the last turn is done
-pub stored_all : (row w W : List ℕ) (at i place : ℕ) → i ≡ length row → W ≡ sets w at (take i row) → place ≡ behind at i (length w) → Added at row w W place
-stored_all row w W at i place n e p =
-    let all : take i row ≡ row = take_all i row (omega arith) in
-    record { words = e ∙ ap (sets w at) all; next = p ∙ ap (λ (k : ℕ). behind at k (length w)) n }
-
 -- nothing is put in behind the end
-sets_out : (w : List ℕ) (at : ℕ) (row : List ℕ) → length w ≤ at → sets w at row ≡ w
+sets_out : {A : Type 0} (w : List A) (at : ℕ) (row : List A) → (0 < length row → length w ≤ at) → sets w at row ≡ w
 sets_out w at [] h = refl
-sets_out w at (a ∷ row) h = let e = set_out w at a h in rw e (sets_out w (suc at) row (omega arith))
+sets_out w at (a ∷ row) h =
+    let b : length w ≤ at = h (omega arith) in
+    let e = set_out w at a b in
+    rw e (sets_out w (suc at) row (λ _. omega arith))
 
-sets_append : (row row₂ w : List ℕ) (at : ℕ) → sets w at (row ++ row₂) ≡ sets (sets w at row) (at + length row) row₂
+sets_append : {A : Type 0} (row row₂ w : List A) (at : ℕ) → sets w at (row ++ row₂) ≡ sets (sets w at row) (at + length row) row₂
 sets_append [] row₂ w at = rw add-zero
 sets_append (a ∷ row) row₂ w at = let e : suc at + length row ≡ at + suc (length row) = omega arith in rw (← e) (sets_append row row₂ (set w at a) (suc at))
 
-sets_behind : (w : List ℕ) (at n : ℕ) (row : List ℕ) → sets w (behind at n (length w)) row ≡ sets w (at + n) row
+sets_behind : {A : Type 0} (w : List A) (at n : ℕ) (row : List A) → sets w (behind at n (length w)) row ≡ sets w (at + n) row
 sets_behind w at n row =
     ⊎_elim
     (λ b. let h = ltb-true (at + n) (length w) b in
     let e : behind at n (length w) ≡ at + n = omega arith in
     rw e)
     (λ b. let h = ltb-false (at + n) (length w) b in
-    let l : length w ≤ behind at n (length w) = omega arith in
-    sets_out w (behind at n (length w)) row l ∙ sym (sets_out w (at + n) row h))
+    sets_out w (behind at n (length w)) row (λ _. omega arith) ∙ sym (sets_out w (at + n) row (λ _. h)))
     (decide (ltb (at + n) (length w)))
+
+-- what does not fit is left out
+sets_fit : {A : Type 0} (row w : List A) (at n : ℕ) → n ≤ length row → (n < length row → length w ≤ at + n) → sets w at row ≡ sets w at (take n row)
+sets_fit row w at n few full =
+    let long = length-take-le n row few in
+    ap (sets w at) (sym (take-append-drop n row)) ∙ sets_append (take n row) (drop n row) w at
+    ∙ sets_out _ _ (drop n row) (λ some. omega (arith, long, length-drop n row, length-sets w at (take n row)))
+
+-- the part of a row for which there is room is put in as a whole
+pub added_part : {A : Type 0} (row w part : List A) (at n k : ℕ) → at ≤ length w → n ≡ min (length row) (length w - at) → k ≡ n → part ≡ take n row → Added at row w (put_mid at k w part) (at + n)
+added_part row w part at n k before room same is =
+    let long : length part ≡ n = ap length is ∙ length-take-le n row (omega arith) in
+    record {
+      words = simp (same, drop-drop, ← append_assoc) (sym (sets_fit row w at n (omega arith) (λ some. omega arith) ∙ ap (sets w at) (sym is) ∙ sets-eq part w at (omega arith) ∙ ap (λ (m : ℕ). take at w ++ part ++ drop (at + m) w) long));
+      next = omega arith;
+    }
+
+-- no part of a row fits behind the end
+pub added_behind : {A : Type 0} (row w : List A) (at : ℕ) → length w ≤ at → Added at row w w at
+added_behind row w at h = record { words = sym (sets_out w at row (λ _. h)); next = omega arith }
 
 -- the place behind both
 behind_both : (at n m size : ℕ) → behind (behind at n size) m size ≡ behind at (n + m) size
 behind_both at n m size = omega arith
 
 -- a slice keeps its length
-pub added_length : {at p : ℕ} {row w w₁ : List ℕ} → Added at row w w₁ p → length w₁ ≡ length w
-added_length {at} {p} {row} {w} {w₁} a = ap length a.words ∙ length-sets w at row
+pub added_length : {A : Type 0} {at p : ℕ} {row w w₁ : List A} → Added at row w w₁ p → length w₁ ≡ length w
+added_length {A} {at} {p} {row} {w} {w₁} a = ap length a.words ∙ length-sets w at row
 
 -- a row and then another behind it are both rows put in, one after the other
-pub added_seq : {at p q : ℕ} {row row₂ w w₁ w₂ : List ℕ} → Added at row w w₁ p → Added p row₂ w₁ w₂ q → Added at (row ++ row₂) w w₂ q
-added_seq {at} {p} {q} {row} {row₂} {w} {w₁} {w₂} a b =
+pub added_seq : {A : Type 0} {at p q : ℕ} {row row₂ w w₁ w₂ : List A} → Added at row w w₁ p → Added p row₂ w₁ w₂ q → Added at (row ++ row₂) w w₂ q
+added_seq {A} {at} {p} {q} {row} {row₂} {w} {w₁} {w₂} a b =
     let size : length w₁ ≡ length w = added_length a in
     let place : p ≡ behind at (length row) (length w₁) = rw size a.next in
     record {
-      words = b.words ∙ ap (λ (k : ℕ). sets w₁ k row₂) place ∙ sets_behind w₁ at (length row) row₂ ∙ ap (λ (l : List ℕ). sets l (at + length row) row₂) a.words ∙ sym (sets_append row row₂ w at);
+      words = b.words ∙ ap (λ (k : ℕ). sets w₁ k row₂) place ∙ sets_behind w₁ at (length row) row₂ ∙ ap (λ (l : List A). sets l (at + length row) row₂) a.words ∙ sym (sets_append row row₂ w at);
       next = rw (length-append, ← behind_both at (length row) (length row₂) (length w), ← size, ← place) b.next;
     }
 
 -- no row at all
-pub added_none : (at : ℕ) (w : List ℕ) → Added at [] w w at
+pub added_none : {A : Type 0} (at : ℕ) (w : List A) → Added at [] w w at
 added_none at w = record { words = refl; next = omega arith }

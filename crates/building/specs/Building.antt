@@ -1,4 +1,4 @@
--- Rows put into a slice of words one after the other, as much of them as there is room for.
+-- Rows put into a slice one after the other, as much of them as there is room for.
 use Rattle.std.specs.Prelude.{◌≡◌, cond, List, ◌∷◌, [], ℕ, ◌+◌, ◌-◌, ◌/◌, ◌%◌, min, max, ltb, length}
 use Rattle.std.proofs.lemmas.List.Edits.{sets}
 use Rattle.building.specs.declared.Counts.{Counts}
@@ -12,7 +12,7 @@ abbrev pub behind : (at n size : ℕ) → ℕ
 behind at n size = max at (min (at + n) size)
 
 -- a row was put in at a place, and the place behind it is the answer; what does not fit is left out, and all other words are as they were
-pub record Added (at : ℕ) (row before after : List ℕ) (place : ℕ) : Type 0 where
+pub record Added {A : Type 0} (at : ℕ) (row before after : List A) (place : ℕ) : Type 0 where
   pub words : after ≡ sets before at row
   pub next : place ≡ behind at (length row) (length before)
 

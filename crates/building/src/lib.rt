@@ -25,6 +25,18 @@ pub struct Counts {
     pub values: u32,
 }
 
+impl Counts {
+    pub const ZERO: Counts = Counts {
+        names: 0,
+        types: 0,
+        edges: 0,
+        fields: 0,
+        arguments: 0,
+        members: 0,
+        values: 0,
+    };
+}
+
 // Where the rows of a type end, in each section that has some.
 #[derive(Clone, Copy)]
 pub struct Ends {
@@ -34,29 +46,34 @@ pub struct Ends {
     pub values: u32,
 }
 
-const LETTERS: usize = 52;
-
-// A word at a place, if there is room.
-fn store(words: &mut [u32], at: usize, word: u32) -> usize
-    ensures words_after { words.new ≡ set words.old at word }
-    ensures value { result ≡ behind at 1 (length words.old) }
-{
-    if at < words.len() {
-        words[at] = word;
-        return at + 1;
-    }
-    at
+impl Ends {
+    pub const ZERO: Ends = Ends {
+        edges: 0,
+        fields: 0,
+        members: 0,
+        values: 0,
+    };
 }
 
-// A name of one letter, if there is room.
+const LETTERS: usize = 52;
+
+// A row from a place on, as much of it as there is room for. The answer is the place behind it.
+fn put<T: Copy>(cells: &mut [T], at: usize, row: &[T]) -> usize
+    ensures { Added at row.now cells.old cells.new result }
+{
+    if at >= cells.len() {
+        return at;
+    }
+    let n = row.len().min(cells.len() - at);
+    cells[at..at + n].copy_from_slice(&row[..n]);
+    at + n
+}
+
+// A name of one letter.
 pub fn one_letter(text: &mut [u8], at: usize, byte: u8) -> usize
     ensures { Added at (byte ∷ []) text.old text.new result }
 {
-    if at < text.len() {
-        text[at] = byte;
-        return at + 1;
-    }
-    at
+    put(text, at, &[byte])
 }
 
 // The letter of a digit: letters rise as digits do.
@@ -76,21 +93,11 @@ pub fn two_letters(text: &mut [u8], at: usize, number: usize) -> usize
     requires { number < letters * letters }
     ensures { Added at (two_letters number) text.old text.new result }
 {
-    let first = one_letter(text, at, letter(number / LETTERS));
-    one_letter(text, first, letter(number % LETTERS))
-}
-
-// A row from a place on.
-fn put(words: &mut [u32], at: usize, row: &[u32]) -> usize
-    ensures { Added at row.now words.old words.new result }
-{
-    let mut place = at;
-    let mut i = 0;
-    while i < row.len() {
-        place = store(words, place, row[i]);
-        i += 1;
-    }
-    place
+    put(
+        text,
+        at,
+        &[letter(number / LETTERS), letter(number % LETTERS)],
+    )
 }
 
 // The header, which stands first.

@@ -10,8 +10,7 @@ use Prim.Native.Nat.{ℕ, suc, ◌≤◌, ◌<◌}
 use native.Mathlib.Omega.{arith}
 use lib.ListN.{length, get_or, set}
 use Rattle.links.specs.Chains.{Graph}
-use Rattle.chains.specs.Cycles.{Distinct, Distinct.none, Distinct.more, LexLe, LexLe.nil, LexLe.less, LexLe.same}
-use Rattle.chains.specs.Cycles.{PathTo, PathTo.last, PathTo.step, FirstCycle, NoCycle}
+use Rattle.chains.specs.Cycles.{Distinct, Distinct.none, Distinct.more, LexLe, LexLe.nil, LexLe.less, LexLe.same, PathTo, PathTo.last, PathTo.step, FirstCycle, NoCycle}
 use Rattle.chains.specs.Search.{Fail, Fail.done, Fail.skip, Fail.enter, Find, Find.here, Find.below, Find.past, Find.later}
 use Rattle.chains.proofs.Marks.{HasMark, same_or_not, at_or_after, mark_same, mark_grows, mark_new, unmarked_old}
 

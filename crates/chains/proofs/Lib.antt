@@ -7,6 +7,5 @@ pub mod Turns
 pub mod Top
 pub mod Counts
 pub mod BoardLaws
-pub mod ForgetLaws
 pub mod RestLaws
 pub mod SettleLaws

@@ -32,9 +32,6 @@ marking_behind {g} {W} s i m h =
     }
 
 module _ (g : Graph) where
-  pub settling_none : {W : List ℕ} → Walking g W → Settling g W W
-  settling_none w = record { marking = w.marking; size = refl; rest = refl }
-
   pub settling_join : {W X Y : List ℕ} → Settling g W X → Settling g X Y → Settling g W Y
   settling_join a b = record { marking = b.marking; size = b.size ∙ a.size; rest = b.rest ∙ a.rest }
 
@@ -45,6 +42,10 @@ module _ (g : Graph) where
   -- a word behind the marks is none of them
   pub settling_behind : {W : List ℕ} → Walking g W → (i m : ℕ) → g.types ≤ i → i < work_words * g.types → Settling g W (set W i m)
   settling_behind {W} w i m low high = record { marking = marking_behind w.marking i m low; size = length-set W i m; rest = drop-set-lt (work_words * g.types) W i m high }
+
+  -- the next field of a type is noted
+  pub settling_noted : {W : List ℕ} → Walking g W → (s m n : ℕ) → s < g.types → n ≡ g.types → Settling g W (set W (n + s) m)
+  settling_noted w s m n low next = settling_behind w (n + s) m (omega arith) (omega arith)
 
   module _ {W : List ℕ} (w : Walking g W) (u : ℕ) (low : u < g.types) where
     m : Marking g W
@@ -118,30 +119,18 @@ module _ (g : Graph) {W : List ℕ} (w : Walking g W) (u : ℕ) (low : u < g.typ
   one = settling_enter g w u low fresh
 
   two : Settling g W (set (set W u 1) (n + u) x)
-  two = settling_join g one (settling_behind g (walking_on g w one) (n + u) x (omega arith) (omega arith))
+  two = settling_join g one (settling_noted g (walking_on g w one) u x n low (next ∙ types))
 
   pub settling_entered : Settling g W (set (set (set W u 1) (n + u) x) (b + u) y)
   settling_entered = settling_join g two (settling_behind g (walking_on g w two) (b + u) y (omega arith) (omega arith))
-
-  pub next_room : n + u < length (set W u 1)
-  next_room = omega (arith, one.size, w.trail)
-
-  pub back_room : b + u < length (set (set W u 1) (n + u) x)
-  back_room = omega (arith, two.size, w.trail)
 
 -- the fields from a up to b lead to settled types or to none
 abbrev pub Led : Graph → List ℕ → ℕ → ℕ → Type 0
 Led g W a b = (h : ℕ) → a ≤ h → h < b → g.next h < g.types → get_or W (g.next h) 0 ≡ 2
 
-pub led_none : (g : Graph) (W : List ℕ) (a : ℕ) → Led g W a a
-led_none g W a h l b = absurd (omega arith)
-
 pub led_more : (g : Graph) (W : List ℕ) (a f : ℕ) → (g.next f < g.types → get_or W (g.next f) 0 ≡ 2) → Led g W a f → Led g W a (f + 1)
 led_more g W a f here below h l b =
     ⊎_elim (λ c. below h l c) (λ c. let e : h ≡ f = omega arith in rw e here) (below_or_from h f)
-
-pub led_all : (g : Graph) (W : List ℕ) (s : ℕ) → Led g W (g.start s) (g.stop s) → LedTo g W s (g.stop s)
-led_all g W s led h u b c = rw c.leads at (led h c.low b (rw c.leads c.type))
 
 -- where no type is marked, none is settled
 pub blank_settled : (g : Graph) (W : List ℕ) → trail_at g.types ≤ length W → ((v : ℕ) → v < g.types → get_or W v 0 ≡ 0) → Settled g W

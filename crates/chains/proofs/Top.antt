@@ -3,7 +3,7 @@
 use mathlib.Core.Path.{◌≡◌, refl, ap, sym, ◌∙◌}
 use mathlib.Core.Logic.{◌≢◌, inl, inr, ⊎_elim}
 use mathlib.Core.List.{List, ◌∷◌, [], ◌++◌}
-use Prim.Native.Nat.{ℕ, suc, ◌≤◌, ◌<◌}
+use Prim.Native.Nat.{ℕ, zero, suc, ◌≤◌, ◌<◌}
 use native.Mathlib.Omega.{arith}
 use lib.ListN.{length, get_or, set, take, drop, length-set, take-append-drop}
 use lib.Seq.{get_or-take, get_or-set_same, get_or-set_other, drop-set-lt, length-take-le, ext_get_or}
@@ -11,8 +11,13 @@ use Rattle.links.specs.Chains.{Graph}
 use Rattle.chains.specs.Answer.{Shaped, Settled, unentered, Forgotten, CycleAnswered}
 use Rattle.chains.specs.Search.{MayWalk, OnlyMarks, stored, Walked}
 use Rattle.chains.proofs.Marks.{same_or_not, free_most, free_falls, unmarked_old, fail_only}
-use Rattle.chains.proofs.ForgetLaws.{other_mark}
 use Rattle.chains.proofs.Correct.{Good, no_cycle, first_cycle}
+
+-- the mark of a type that is not entered stays
+other_mark : (m : ℕ) → m ≢ 1 → unentered m ≡ m
+other_mark zero n = refl
+other_mark (suc zero) n = absurd (n refl)
+other_mark (suc (suc m)) n = refl
 
 -- rows stored from the first word on, one behind the other
 stored_behind : (i x : ℕ) (fs O : List ℕ) → stored (suc i) fs (x ∷ O) ≡ x ∷ stored i fs O
@@ -61,10 +66,6 @@ module _ (g : Graph) (t k : ℕ) (W : List ℕ) (types : k ≡ g.types) (low : t
 
   -- what the walk leaves and returns
   module _ (X O P : List ℕ) (n : ℕ) where
-    pub top_most : Walked g t t (g.start t) 0 (set W t 1) X O P n → n ≤ k
-    top_most (inl m) = omega (arith, m.nothing)
-    top_most (inr r) = omega (arith, r.most)
-
     pub top_only : Walked g t t (g.start t) 0 (set W t 1) X O P n → OnlyMarks g.types (set W t 1) X
     top_only (inl m) = fail_only g t m.fail
     top_only (inr r) = r.only

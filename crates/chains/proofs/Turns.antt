@@ -1,5 +1,5 @@
 -- A turn of the loop over the fields of a type, and what the walk returns, as the search's relations have it.
-use mathlib.Core.Path.{◌≡◌, refl, ap, subst, ◌∙◌}
+use mathlib.Core.Path.{◌≡◌, refl, ap, ◌∙◌}
 use mathlib.Core.Logic.{inl, inr}
 use mathlib.Core.List.{List, ◌∷◌, []}
 use Prim.Native.Nat.{ℕ, suc, ◌+◌, ◌*◌, ◌≤◌, ◌<◌}
@@ -7,18 +7,9 @@ use native.Mathlib.Omega.{arith}
 use native.Mathlib.Numerals.{add-one}
 use lib.ListN.{length, get_or, set, length-set}
 use Rattle.links.specs.Chains.{Graph}
-use Rattle.chains.specs.Search.{free, Skipped, Opens, MayWalk, OnlyMarks, stored, Missed, Arrived, Walked}
-use Rattle.chains.specs.Search.{Fail, Fail.done, Fail.skip, Fail.enter, Find, Find.here, Find.below, Find.past, Find.later}
-use Rattle.chains.proofs.Marks.{free_falls, only_none, only_enter, only_join, fail_only}
+use Rattle.chains.specs.Search.{free, Skipped, Opens, MayWalk, OnlyMarks, stored, Missed, Arrived, Walked, Fail, Fail.done, Fail.skip, Fail.enter, Find, Find.here, Find.below, Find.past, Find.later}
+use Rattle.chains.proofs.Marks.{free_falls, only_enter, only_join, fail_only}
 use Rattle.chains.proofs.Total.{fail_free}
-
--- what is known of a walk from f is known where f is given as another number
-pub walked_from : (g : Graph) (t s f f' depth : ℕ) (W X O P : List ℕ) (n : ℕ) → f ≡ f' → Walked g t s f depth W X O P n → Walked g t s f' depth W X O P n
-walked_from g t s f f' depth W X O P n e w = subst (λ x. Walked g t s x depth W X O P n) e w
-
--- a field of type s is a row
-pub in_row : {g : Graph} {rows s depth : ℕ} {W : List ℕ} → MayWalk g rows s depth W → (f : ℕ) → f < g.stop s → f < rows
-in_row {s} ready f lt = omega (arith, ready.shaped.within s ready.type)
 
 module _ (g : Graph) (t end first : ℕ) where
   -- At the head of the loop: the search of the fields from `first` up to `end` came to the field f with the work words W. `failed` and
@@ -28,10 +19,6 @@ module _ (g : Graph) (t end first : ℕ) where
     pub left : free g.types W ≤ free g.types W₀
     pub failed : (s : ℕ) → g.stop s ≡ end → (X : List ℕ) → Fail g t s f W X → Fail g t s first W₀ X
     pub found : (s : ℕ) → g.stop s ≡ end → (fs : List ℕ) → Find g t s f W fs → Find g t s first W₀ fs
-
-  -- the loop begins at `first`, with nothing done
-  pub turn_first : (W : List ℕ) → Turn W W first
-  turn_first W = record { only = only_none g.types W; left = omega arith; failed = λ s e X r. r; found = λ s e fs r. r }
 
   -- a turn: the field f leads to the type u
   module _ (W₀ W : List ℕ) (f : ℕ) (w : Turn W₀ W f) where

@@ -7,146 +7,131 @@
 ghost use Rattle.std.specs.Prelude.{◌≡◌, true, ◌*◌, ◌≤◌, ◌<◌, length};
 ghost use Rattle.table.specs.Layout.{type_count, field_count};
 ghost use Rattle.links.specs.Fields.{chain_graph, chains_end};
-ghost use Rattle.links.specs.Links.{Linked};
 ghost use Rattle.chains.specs.Work.{work_words, mark_of, free_mark};
 ghost use Rattle.chains.specs.Answer.{Settled};
 ghost use Rattle.chains.specs.Settle.{Walking, Settling, LedTo, AllSettled};
 
 use crate::cycle::forget;
 use crate::work::{Mark, Work};
-use links::{chains_end, chains_start, target};
-use rows::types::FoundType;
-use table::layout::{Layout, types_in, wide};
+use links::Links;
+use table::layout::{Layout, types_in};
 use table::numbers::TypeRow;
 
 // Every chain field of s leads to a settled type.
-fn leads_to_settled(words: &[u32], targets: &[u16], s: TypeRow, work: &[u32]) -> bool
-    requires linked { Linked words.now targets.now }
-    requires s_bound { s.0 < type_count words.now }
-    requires words_in_bounds { type_count words.now ≤ length work.now }
-    ensures { result ≡ true → LedTo (chain_graph words.now) work.now s.0 (chains_end words.now s.0) }
+fn leads_to_settled(links: &Links, s: TypeRow, work: &[u32]) -> bool
+    requires s_bound { s.0 < type_count links.now.words.now }
+    requires words_in_bounds { type_count links.now.words.now ≤ length work.now }
+    ensures { result ≡ true → LedTo (chain_graph links.now.words.now) work.now s.0 (chains_end links.now.words.now s.0) }
 {
-    let end = chains_end(words, s);
-    let mut f = chains_start(words, s);
-    while f < end {
-        if let FoundType::At(u) = target(words, targets, f) {
+    for f in links.start(s)..links.end(s) {
+        if let Some(u) = links.target(f) {
             let row = u.0 as usize;
             if work[row] != Mark::SETTLED.0 {
                 return false;
             }
         }
-        f += 1;
     }
     true
 }
 
 // Settles type s if it can be.
-fn settle_type(words: &[u32], targets: &[u16], s: TypeRow, work: &mut [u32])
-    requires linked { Linked words.now targets.now }
-    requires s_bound { s.0 < type_count words.now }
-    requires walking { Walking (chain_graph words.now) work.old }
-    ensures { Settling (chain_graph words.now) work.old work.new }
+fn settle_type(links: &Links, s: TypeRow, work: &mut [u32])
+    requires s_bound { s.0 < type_count links.now.words.now }
+    requires walking { Walking (chain_graph links.now.words.now) work.old }
+    ensures { Settling (chain_graph links.now.words.now) work.old work.new }
 {
-    if leads_to_settled(words, targets, s, work) {
+    if leads_to_settled(links, s, work) {
         let row = s.0 as usize;
         work[row] = Mark::SETTLED.0;
     }
 }
 
 // Enters type u, from the type that the trail leads back to.
-fn enter(words: &[u32], targets: &[u16], u: TypeRow, from: TypeRow, work: &mut [u32])
-    requires linked { Linked words.now targets.now }
-    requires u_bound { (u.0 < type_count words.now) × (mark_of work.old u.0 ≡ free_mark) }
-    requires walking { Walking (chain_graph words.now) work.old }
-    ensures { Settling (chain_graph words.now) work.old work.new }
+fn enter(links: &Links, u: TypeRow, from: TypeRow, work: &mut [u32])
+    requires u_bound { (u.0 < type_count links.now.words.now) × (mark_of work.old u.0 ≡ free_mark) }
+    requires walking { Walking (chain_graph links.now.words.now) work.old }
+    ensures { Settling (chain_graph links.now.words.now) work.old work.new }
 {
     let row = u.0 as usize;
     let parts = Work {
-        types: types_in(words),
+        types: types_in(links.words),
     };
     work[row] = Mark::ENTERED.0;
     let next = parts.counts_at() + row;
-    work[next] = chains_start(words, u) as u32;
+    work[next] = links.start(u) as u32;
     let back = parts.trail_at() + row;
     work[back] = from.0;
 }
 
 // Enters the type that field f of s leads to, where it leads to one that is not entered yet. Answers the type that the walk then stands on.
-fn follow(words: &[u32], targets: &[u16], s: TypeRow, f: usize, work: &mut [u32]) -> TypeRow
-    requires linked { Linked words.now targets.now }
-    requires f_bound { f < field_count words.now }
-    requires walking { Walking (chain_graph words.now) work.old }
-    ensures { Settling (chain_graph words.now) work.old work.new }
+fn follow(links: &Links, s: TypeRow, f: usize, work: &mut [u32]) -> TypeRow
+    requires f_bound { f < field_count links.now.words.now }
+    requires walking { Walking (chain_graph links.now.words.now) work.old }
+    ensures { Settling (chain_graph links.now.words.now) work.old work.new }
 {
-    let FoundType::At(u) = target(words, targets, f) else {
+    let Some(u) = links.target(f) else {
         return s;
     };
     let row = u.0 as usize;
     if work[row] != Mark::FREE.0 {
         return s;
     }
-    enter(words, targets, u, s, work);
+    enter(links, u, s, work);
     u
 }
 
 // A step of the walk, which stands on s: on by the next field; or, with none left, back, and s is settled if it can be. Answers the type that the walk then
 // stands on, or NONE where it began at s.
-fn step(words: &[u32], targets: &[u16], s: TypeRow, work: &mut [u32]) -> TypeRow
-    requires linked { Linked words.now targets.now }
-    requires s_bound { s.0 < type_count words.now }
-    requires walking { Walking (chain_graph words.now) work.old }
-    ensures { Settling (chain_graph words.now) work.old work.new }
+#[tactic(auto, using(crate::proofs::Shape::shaped))]
+fn step(links: &Links, s: TypeRow, work: &mut [u32]) -> TypeRow
+    requires s_bound { s.0 < type_count links.now.words.now }
+    requires walking { Walking (chain_graph links.now.words.now) work.old }
+    ensures { Settling (chain_graph links.now.words.now) work.old work.new }
 {
     let row = s.0 as usize;
     let parts = Work {
-        types: types_in(words),
+        types: types_in(links.words),
     };
     let next = parts.counts_at() + row;
-    let f = work[next];
-    if wide(f) < chains_end(words, s) {
-        work[next] = f + 1;
-        return follow(words, targets, s, wide(f), work);
+    let f = work[next] as usize;
+    if f < links.end(s) {
+        work[next] += 1;
+        return follow(links, s, f, work);
     }
-    settle_type(words, targets, s, work);
+    settle_type(links, s, work);
     let back = parts.trail_at() + row;
     TypeRow(work[back])
 }
 
 // Walks from t through all that it leads to, each type entered once. A step looks at a field or leaves a type, so there are no more than the fields and
 // the types together.
-fn settle_from(words: &[u32], targets: &[u16], t: TypeRow, work: &mut [u32])
-    requires linked { Linked words.now targets.now }
-    requires t_bound { (t.0 < type_count words.now) × (mark_of work.old t.0 ≡ free_mark) }
-    requires walking { Walking (chain_graph words.now) work.old }
-    ensures { Settling (chain_graph words.now) work.old work.new }
+fn settle_from(links: &Links, t: TypeRow, work: &mut [u32])
+    requires t_bound { (t.0 < type_count links.now.words.now) × (mark_of work.old t.0 ≡ free_mark) }
+    requires walking { Walking (chain_graph links.now.words.now) work.old }
+    ensures { Settling (chain_graph links.now.words.now) work.old work.new }
 {
-    let types = types_in(words);
-    enter(words, targets, t, TypeRow::NONE, work);
+    let types = types_in(links.words);
+    enter(links, t, TypeRow::NONE, work);
     let mut s = t;
-    let mut steps = Layout::MOST_FIELDS + types;
-    while steps != 0 {
+    for _ in 0..Layout::MOST_FIELDS + types {
         if types <= s.index() {
             return;
         }
-        s = step(words, targets, s, work);
-        steps -= 1;
+        s = step(links, s, work);
     }
 }
 
 // Settles each type that can be.
-pub fn settle(words: &[u32], targets: &[u16], work: &mut [u32])
-    requires linked { Linked words.now targets.now }
-    requires words_in_bounds { work_words * type_count words.now ≤ length work.old }
-    requires settled { Settled (chain_graph words.now) work.old }
-    ensures { AllSettled (chain_graph words.now) work.old work.new }
+pub fn settle(links: &Links, work: &mut [u32])
+    requires words_in_bounds { work_words * type_count links.now.words.now ≤ length work.old }
+    requires settled { Settled (chain_graph links.now.words.now) work.old }
+    ensures { AllSettled (chain_graph links.now.words.now) work.old work.new }
 {
-    let types = types_in(words);
-    let mut t = 0;
-    while t < types {
+    let types = types_in(links.words);
+    for t in 0..types {
         if work[t] == Mark::FREE.0 {
-            settle_from(words, targets, TypeRow(t as u32), work);
+            settle_from(links, TypeRow(t as u32), work);
         }
-        t += 1;
     }
     forget(work, types);
 }

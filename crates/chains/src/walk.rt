@@ -2,12 +2,10 @@
 ghost use Rattle.std.specs.Prelude.{◌≡◌, ◌<◌, set};
 ghost use Rattle.table.specs.Layout.{field_count, fields_start, most_fields};
 ghost use Rattle.links.specs.Fields.{chain_graph};
-ghost use Rattle.links.specs.Links.{Linked};
 ghost use Rattle.chains.specs.Search.{MayWalk, Walked};
 
 use crate::work::Mark;
-use links::{chains_end, chains_start, target};
-use rows::types::FoundType;
+use links::Links;
 use table::numbers::TypeRow;
 
 // Stores a field's row where there is room.
@@ -24,35 +22,23 @@ fn store(out: &mut [u32], at: usize, f: usize)
 // through marked types, and else how many fields lead to t; those behind the first `depth` are stored.
 #[cycle(walk_fields_walk_type)]
 pub fn walk_type(
-    words: &[u32],
-    targets: &[u16],
+    links: &Links,
     t: TypeRow,
     s: TypeRow,
     depth: usize,
     work: &mut [u32],
     out: &mut [u32],
 ) -> usize
-    requires linked { Linked words.now targets.now }
-    requires may_walk { MayWalk (chain_graph words.now) (field_count words.now) s.0 depth work.old }
-    ensures { Walked (chain_graph words.now) t.0 s.0 (fields_start words.now s.0) depth work.old work.new out.old out.new result }
+    requires { MayWalk (chain_graph links.now.words.now) (field_count links.now.words.now) s.0 depth work.old }
+    ensures { Walked (chain_graph links.now.words.now) t.0 s.0 (fields_start links.now.words.now s.0) depth work.old work.new out.old out.new result }
 {
-    walk_fields(
-        words,
-        targets,
-        t,
-        s,
-        chains_start(words, s),
-        depth,
-        work,
-        out,
-    )
+    walk_fields(links, t, s, links.start(s), depth, work, out)
 }
 
 // The same for the fields of s from `first` on: each type that they lead to is entered where it is not marked.
 #[cycle(walk_fields_walk_type)]
 fn walk_fields(
-    words: &[u32],
-    targets: &[u16],
+    links: &Links,
     t: TypeRow,
     s: TypeRow,
     first: usize,
@@ -60,29 +46,25 @@ fn walk_fields(
     work: &mut [u32],
     out: &mut [u32],
 ) -> usize
-    requires linked { Linked words.now targets.now }
-    requires may_walk { MayWalk (chain_graph words.now) (field_count words.now) s.0 depth work.old }
-    ensures { Walked (chain_graph words.now) t.0 s.0 first depth work.old work.new out.old out.new result }
+    requires { MayWalk (chain_graph links.now.words.now) (field_count links.now.words.now) s.0 depth work.old }
+    ensures { Walked (chain_graph links.now.words.now) t.0 s.0 first depth work.old work.new out.old out.new result }
 {
-    let end = chains_end(words, s);
-    let mut f = first;
-    while f < end {
-        if let FoundType::At(u) = target(words, targets, f) {
-            if u.same(t) {
+    for f in first..links.end(s) {
+        if let Some(u) = links.target(f) {
+            if u == t {
                 store(out, depth, f);
                 return depth + 1;
             }
             let row = u.0 as usize;
             if work[row] == Mark::FREE.0 {
                 work[row] = Mark::ENTERED.0;
-                let n = walk_type(words, targets, t, u, depth + 1, work, out);
+                let n = walk_type(links, t, u, depth + 1, work, out);
                 if n != 0 {
                     store(out, depth, f);
                     return n;
                 }
             }
         }
-        f += 1;
     }
     0
 }

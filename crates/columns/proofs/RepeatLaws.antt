@@ -6,9 +6,7 @@ use Prim.Native.Nat.{ℕ, ◌+◌, ◌≤◌}
 use native.Mathlib.Omega.{arith}
 use lib.ListN.{replicate}
 use lib.Dec.{eqb}
-use mathlib.Core.Logic.{⊎_elim}
-use borrow.Author.Tests.{eq-eqb, ne_eqb, eqb-true, eqb-false}
-use Rattle.names.proofs.BoolLaws.{decide}
+use Rattle.names.proofs.BoolLaws.{eqb_turned}
 use Rattle.bits.specs.Bits.{has, Added}
 use Rattle.bits.proofs.BitLaws.{has_none}
 use Rattle.table.specs.declared.layout.Column.{Column}
@@ -28,10 +26,6 @@ not_not true false e = refl
 not_not false true e = refl
 not_not false false e = e
 
-same_turned : (a b : ℕ) → eqb a b ≡ eqb b a
-same_turned a b =
-    ⊎_elim (λ e. e ∙ sym (eq-eqb b a (sym (eqb-true a b e)))) (λ e. e ∙ sym (ne_eqb b a (λ q. eqb-false a b e (sym q)))) (decide (eqb a b))
-
 module _ (w : List ℕ) (c : Column) (from : ℕ) where
   -- no row from `from` up to i has the word n
   abbrev unmet : ℕ → ℕ → Bool
@@ -46,7 +40,7 @@ module _ (w : List ℕ) (c : Column) (from : ℕ) where
 
   pub met_more : (before after : List ℕ) (i word : ℕ) → from ≤ i → Met before i → word ≡ word_at w c i → Added word before after → Met after (i + 1)
   met_more before after i word h m e a n =
-      rw (every_next (λ j. not (eqb n (word_at w c j))) from i h, not_and, a.members n, m n, e, same_turned (word_at w c i) n) refl
+      rw (every_next (λ j. not (eqb n (word_at w c j))) from i h, not_and, a.members n, m n, e, eqb_turned (word_at w c i) n) refl
 
   -- what the set says of the next row
   pub met_fresh : (seen : List ℕ) (i : ℕ) → Met seen i → fresh w c from i ≡ not (has seen (word_at w c i))

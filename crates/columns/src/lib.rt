@@ -18,28 +18,14 @@ pub fn all_below(words: &[u32], col: Column, limit: usize) -> bool
     requires { Inside words.now col }
     ensures { result ≡ below words.now col limit }
 {
-    let mut i = 0;
-    while i < col.rows {
-        if limit <= end_at(words, col, i) {
-            return false;
-        }
-        i += 1;
-    }
-    true
+    (0..col.rows).all(|i| end_at(words, col, i) < limit)
 }
 
 pub fn wraps_good(words: &[u32], col: Column) -> bool
     requires { Inside words.now col }
     ensures { result ≡ wraps_good words.now col }
 {
-    let mut i = 0;
-    while i < col.rows {
-        if !Wrap(word_at(words, col, i)).is_good() {
-            return false;
-        }
-        i += 1;
-    }
-    true
+    (0..col.rows).all(|i| Wrap(word_at(words, col, i)).is_good())
 }
 
 // Ends don't fall, and the last is the count of the section that they cut.
@@ -48,14 +34,12 @@ pub fn ends_good(words: &[u32], col: Column, count: usize) -> bool
     ensures { result ≡ ends_good words.now col count }
 {
     let mut start = 0;
-    let mut i = 0;
-    while i < col.rows {
+    for i in 0..col.rows {
         let end = end_at(words, col, i);
         if end < start {
             return false;
         }
         start = end;
-        i += 1;
     }
     start == count
 }
@@ -71,14 +55,12 @@ pub fn all_distinct(words: &[u32], col: Column, from: usize, to: usize) -> bool
         return true;
     }
     let mut seen = [0; 128];
-    let mut i = from;
-    while i < to {
+    for i in from..to {
         let name = end_at(words, col, i);
         if is_in(&seen, name) {
             return false;
         }
         add(&mut seen, name);
-        i += 1;
     }
     true
 }

@@ -1,14 +1,10 @@
 // Field types, of an interface against the own: the wraps layer by layer from the outside, then the names.
 ghost use Rattle.std.specs.Prelude.{◌≡◌, ◌+◌, ◌<◌};
-ghost use Rattle.rising.specs.Lists.{Sorted, Findable};
 ghost use Rattle.comparing.specs.FieldTypes.{layer_fits, layers_fit, wraps_fit, has_edge, has_object_member, names_match, field_type_fits};
 
+use lent::Table;
 use names::wrap::Wrap;
-use rising::lists::{is_edge_of, is_member_of};
-use rows::index::look_up;
-use rows::types::{FoundType, type_kind};
 use table::kinds::Kind;
-use table::layout::Layout;
 use table::numbers::{NameNo, TypeRow};
 
 // A non-null interface layer needs a non-null own layer.
@@ -46,86 +42,58 @@ fn wraps_fit(wrap: Wrap, own: Wrap) -> bool
 }
 
 // An interface, and an object or interface with an edge of its name.
-fn has_edge(
-    words: &[u32],
-    l: Layout,
-    lists: &[u16],
-    ty: TypeRow,
-    name: NameNo,
-    own: TypeRow,
-) -> bool
-    requires sorted { Sorted words.now l lists.now }
-    requires ty_lt_types { (ty.0 < l.types) × (own.0 < l.types) }
-    ensures { result ≡ has_edge words.now ty.0 name.0 own.0 }
+fn has_edge(table: &Table, ty: TypeRow, name: NameNo, own: TypeRow) -> bool
+    requires { (ty.0 < table.now.layout.types) × (own.0 < table.now.layout.types) }
+    ensures { result ≡ has_edge table.now.words.now ty.0 name.0 own.0 }
 {
-    if (type_kind(words, l, ty) == Kind::INTERFACE) & Kind::is_composite(type_kind(words, l, own)) {
-        return is_edge_of(words, l, lists, name, own);
+    if (table.kind(ty) == Kind::Interface) & table.kind(own).is_composite() {
+        return table.is_edge_of(name, own);
     }
     false
 }
 
 // A union, and an object among its members.
-fn has_object_member(
-    words: &[u32],
-    l: Layout,
-    lists: &[u16],
-    ty: TypeRow,
-    own: TypeRow,
-    name: NameNo,
-) -> bool
-    requires sorted { Sorted words.now l lists.now }
-    requires ty_lt_types { (ty.0 < l.types) × (own.0 < l.types) }
-    ensures { result ≡ has_object_member words.now ty.0 own.0 name.0 }
+fn has_object_member(table: &Table, ty: TypeRow, own: TypeRow, name: NameNo) -> bool
+    requires { (ty.0 < table.now.layout.types) × (own.0 < table.now.layout.types) }
+    ensures { result ≡ has_object_member table.now.words.now ty.0 own.0 name.0 }
 {
-    if (type_kind(words, l, ty) == Kind::UNION) & (type_kind(words, l, own) == Kind::OBJECT) {
-        return is_member_of(words, l, lists, name, ty);
+    if (table.kind(ty) == Kind::Union) & (table.kind(own) == Kind::Object) {
+        return table.is_member_of(name, ty);
     }
     false
 }
 
 // Names match if equal, or by an edge, or by a union.
-fn names_match(
-    words: &[u32],
-    l: Layout,
-    index: &[u16],
-    lists: &[u16],
-    name: NameNo,
-    own_name: NameNo,
-) -> bool
-    requires { Findable words.now l index.now lists.now }
-    ensures { result ≡ names_match words.now name.0 own_name.0 }
+fn names_match(table: &Table, name: NameNo, own_name: NameNo) -> bool
+    ensures { result ≡ names_match table.now.words.now name.0 own_name.0 }
 {
-    if name.same(own_name) {
+    if name == own_name {
         return true;
     }
-    let FoundType::At(ty) = look_up(words, l, index, name) else {
+    let Some(ty) = table.look_up(name) else {
         return false;
     };
-    let FoundType::At(own) = look_up(words, l, index, own_name) else {
+    let Some(own) = table.look_up(own_name) else {
         return false;
     };
-    if has_edge(words, l, lists, ty, name, own) {
+    if has_edge(table, ty, name, own) {
         return true;
     }
-    has_object_member(words, l, lists, ty, own, own_name)
+    has_object_member(table, ty, own, own_name)
 }
 
 // The own type does for the interface's (the Rust's is_valid_implementation_field_type).
 pub fn is_valid_implementation_field_type(
-    words: &[u32],
-    l: Layout,
-    index: &[u16],
-    lists: &[u16],
+    table: &Table,
     name: NameNo,
     wrap: Wrap,
     own_name: NameNo,
     own: Wrap,
 ) -> bool
-    requires { Findable words.now l index.now lists.now }
-    ensures { result ≡ field_type_fits words.now name.0 wrap.0 own_name.0 own.0 }
+    ensures { result ≡ field_type_fits table.now.words.now name.0 wrap.0 own_name.0 own.0 }
 {
     if wraps_fit(wrap, own) {
-        return names_match(words, l, index, lists, name, own_name);
+        return names_match(table, name, own_name);
     }
     false
 }

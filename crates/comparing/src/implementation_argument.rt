@@ -2,19 +2,16 @@
 ghost use Rattle.std.specs.Prelude.{◌≡◌, ◌+◌, ◌≤◌, ◌<◌};
 ghost use Rattle.records.specs.Records.{Emitted};
 ghost use Rattle.rows.specs.Parts.{argument_rows};
-ghost use Rattle.rows.specs.Readable.{SoundRows};
-ghost use Rattle.comparing.specs.Arguments.{same_type, implementing_arguments};
-ghost use Rattle.comparing.specs.Arguments.{demanded_argument, demanded_arguments, own_argument, own_arguments};
+ghost use Rattle.comparing.specs.Arguments.{same_type, implementing_arguments, demanded_argument, demanded_arguments, own_argument, own_arguments};
 ghost use Rattle.comparing.specs.Bounds.{most_of_interface_field};
 ghost use Rattle.lookup.specs.Cells.{ArgumentsNamed, ArgumentsHelped};
 ghost use Rattle.table.specs.Layout.{most_arguments};
 
+use lent::Table;
 use lookup::arguments::{has_few, index_arguments, look_up_argument};
-use records::{Record, put, used};
+use records::{Record, put, put_each, used};
 use rows::cells::{argument_default, argument_name, argument_rows, argument_type, argument_wrap};
 use rows::parts::{arguments_of, arguments_start};
-use rows::search::Found;
-use table::layout::Layout;
 use table::numbers::TypeRow;
 
 // A field of an interface and the own field of its name: the type, the edge's row, and the rows of the two fields.
@@ -31,8 +28,8 @@ fn has_same_type(arguments: &[u32], i: usize, others: &[u32], other: usize) -> b
     requires { (i < argument_rows arguments.now) × (other < argument_rows others.now) }
     ensures { result ≡ same_type arguments.now i others.now other }
 {
-    argument_type(arguments, i).same(argument_type(others, other))
-        & argument_wrap(arguments, i).same(argument_wrap(others, other))
+    (argument_type(arguments, i) == argument_type(others, other))
+        & (argument_wrap(arguments, i) == argument_wrap(others, other))
 }
 
 // 11 for an argument of the interface's field that the own field lacks; 12 where the types differ.
@@ -53,8 +50,7 @@ fn validate_interface_argument(
     ensures upper_bound { result ≤ 1 }
 {
     let row = (interface_first + i) as u32;
-    let Found::At(own) = look_up_argument(arguments, cells, argument_name(interface_arguments, i))
-    else {
+    let Some(own) = look_up_argument(arguments, cells, argument_name(interface_arguments, i)) else {
         return put(
             out,
             Record::missing_interface_field_argument(pair.ty, pair.edge, pair.own_field, row),
@@ -89,24 +85,22 @@ fn validate_each_interface_argument(
     ensures emitted { Emitted (demanded_arguments pair first arguments.now interface_first interface_arguments.now) out.old out.new result }
     ensures upper_bound { result ≤ most_arguments }
 {
-    let rows = argument_rows(interface_arguments);
-    let mut n = 0;
-    let mut i = 0;
-    while i < rows {
-        let at = used(n, out.len());
-        n += validate_interface_argument(
-            pair,
-            first,
-            arguments,
-            cells,
-            interface_first,
-            interface_arguments,
-            i,
-            &mut out[at..],
-        );
-        i += 1;
-    }
-    n
+    put_each(
+        argument_rows(interface_arguments),
+        |i, out| {
+            validate_interface_argument(
+                pair,
+                first,
+                arguments,
+                cells,
+                interface_first,
+                interface_arguments,
+                i,
+                out,
+            )
+        },
+        out,
+    )
 }
 
 // Each is looked for among all of the own field, so where both fields have many, the own are noted in cells first. Where one of them has
@@ -164,8 +158,7 @@ fn validate_extra_argument(
     ensures emitted { Emitted (own_argument pair first arguments.now interface_arguments.now i) out.old out.new result }
     ensures upper_bound { result ≤ 1 }
 {
-    let Found::Nothing = look_up_argument(interface_arguments, cells, argument_name(arguments, i))
-    else {
+    let None = look_up_argument(interface_arguments, cells, argument_name(arguments, i)) else {
         return 0;
     };
     if argument_wrap(arguments, i).non_null(0) & (argument_default(arguments, i) == 0) {
@@ -196,23 +189,13 @@ fn validate_each_extra_argument(
     ensures emitted { Emitted (own_arguments pair first arguments.now interface_arguments.now) out.old out.new result }
     ensures upper_bound { result ≤ most_arguments }
 {
-    let rows = argument_rows(arguments);
-    let mut n = 0;
-    let mut i = 0;
-    while i < rows {
-        let at = used(n, out.len());
-        n += validate_extra_argument(
-            pair,
-            first,
-            arguments,
-            interface_arguments,
-            cells,
-            i,
-            &mut out[at..],
-        );
-        i += 1;
-    }
-    n
+    put_each(
+        argument_rows(arguments),
+        |i, out| {
+            validate_extra_argument(pair, first, arguments, interface_arguments, cells, i, out)
+        },
+        out,
+    )
 }
 
 // The same the other way round: the interface's are noted.
@@ -237,17 +220,13 @@ fn validate_extra_arguments(
 }
 
 // The arguments of the own field against those of the interface's field.
-pub fn validate_implementing_arguments(
-    words: &[u32],
-    l: Layout,
-    pair: FieldPair,
-    out: &mut [u32],
-) -> usize
-    requires sound_rows { SoundRows words.now l }
-    requires interface_field_bound { (pair.interface_field < l.fields) × (pair.own_field < l.fields) }
-    ensures emitted { Emitted (implementing_arguments words.now pair.ty.0 pair.edge pair.interface_field pair.own_field) out.old out.new result }
+pub fn validate_implementing_arguments(table: &Table, pair: FieldPair, out: &mut [u32]) -> usize
+    requires { (pair.interface_field < table.now.layout.fields) × (pair.own_field < table.now.layout.fields) }
+    ensures emitted { Emitted (implementing_arguments table.now.words.now pair.ty.0 pair.edge pair.interface_field pair.own_field) out.old out.new result }
     ensures upper_bound { result ≤ most_of_interface_field }
 {
+    let words = table.words;
+    let l = table.layout;
     let own = pair.own_field as usize;
     let first = arguments_start(words, l, own);
     let arguments = arguments_of(words, l, own);

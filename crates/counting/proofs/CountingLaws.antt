@@ -1,8 +1,8 @@
 -- The work table while the counts are filled in behind the marks. k is the number of types, as the code holds it.
-use mathlib.Core.Path.{◌≡◌, refl, ap, ◌∙◌}
+use mathlib.Core.Path.{◌≡◌, ap, ◌∙◌}
 use mathlib.Core.Logic.{⊎_elim}
 use mathlib.Core.List.{List}
-use Prim.Native.Nat.{ℕ, ◌+◌, ◌*◌, ◌≤◌, ◌<◌}
+use Prim.Native.Nat.{ℕ, ◌+◌, ◌*◌, ◌<◌}
 use native.Mathlib.Omega.{arith}
 use lib.Dec.{eqb}
 use lib.ListN.{length, get_or, set, drop, length-set}
@@ -12,7 +12,6 @@ use Rattle.names.proofs.BoolLaws.{decide}
 use Rattle.links.specs.Chains.{Graph}
 use Rattle.chains.specs.Work.{work_words}
 use Rattle.chains.specs.Answer.{Settled, CycleCount}
-use Rattle.chains.specs.Settle.{AllSettled}
 use Rattle.chains.proofs.SettleLaws.{settled_behind}
 use Rattle.counting.specs.Counting.{Counted, counts_in}
 
@@ -24,9 +23,6 @@ pub record Counting (g : Graph) (k : ℕ) (before after : List ℕ) (t : ℕ) : 
   pub counts : (u : ℕ) → u < t → CycleCount g u (get_or after (k + u) 0)
 
 module _ (g : Graph) (k : ℕ) (types : k ≡ g.types) (before : List ℕ) where
-  pub filling_none : Settled g before → Counting g k before before 0
-  filling_none s = record { settled = s; size = refl; rest = refl; counts = λ u h. absurd (omega arith) }
-
   module _ (after : List ℕ) (t n : ℕ) (f : Counting g k before after t) (low : t < k) (c : CycleCount g t n) where
     room : k + t < length after
     room = omega (arith, f.settled.marking.room)
@@ -50,15 +46,6 @@ module _ (g : Graph) (k : ℕ) (types : k ≡ g.types) (before : List ℕ) where
           rest = drop-set-lt (work_words * k) after (k + t) n (omega arith) ∙ f.rest;
           counts = more_counts;
         }
-
-  -- before, types were settled
-  pub filling_done : (first after : List ℕ) (t : ℕ) → AllSettled g first before → Counting g k before after t → k ≤ t → Counted g first after
-  filling_done first after t s f h =
-      record {
-        counts = λ u q. let c : CycleCount g u (get_or after (k + u) 0) = f.counts u (omega arith) in rw types at c;
-        size = f.size ∙ s.size;
-        rest = (rw types at f.rest) ∙ s.rest;
-      }
 
 -- the counts, as the rules are handed them
 pub counts_part : (g : Graph) (k : ℕ) → k ≡ g.types → (before mid : List ℕ) → Counted g before mid → (u : ℕ) → u < g.types → CycleCount g u (counts_in k mid u)

@@ -9,7 +9,6 @@ ghost use Rattle.std.specs.Prelude.{◌≡◌, ◌*◌, ◌≤◌, ◌<◌, leng
 ghost use Rattle.table.specs.Layout.{type_count};
 ghost use Rattle.rows.specs.Readable.{SoundRows};
 ghost use Rattle.links.specs.Fields.{chain_graph};
-ghost use Rattle.links.specs.Links.{Linked};
 ghost use Rattle.chains.specs.Work.{work_words};
 ghost use Rattle.chains.specs.Answer.{Settled, CycleCount};
 ghost use Rattle.counting.specs.Counting.{Counted};
@@ -17,38 +16,34 @@ ghost use Rattle.counting.specs.Counting.{Counted};
 use chains::cycle::first_cycle;
 use chains::settle::settle;
 use chains::work::Work;
-use links::link;
+use links::{Links, link};
 use table::layout::{Layout, types_in};
 use table::numbers::TypeRow;
 
 // The fields in the first cycle of a type, and 0 where it has none.
-pub fn count_cycle(words: &[u32], targets: &[u16], t: TypeRow, work: &mut [u32]) -> usize
-    requires linked { Linked words.now targets.now }
-    requires t_bound { t.0 < type_count words.now }
-    requires settled { Settled (chain_graph words.now) work.old }
-    ensures cycle_count { CycleCount (chain_graph words.now) t.0 result }
-    ensures upper_bound { result ≤ type_count words.now }
+pub fn count_cycle(links: &Links, t: TypeRow, work: &mut [u32]) -> usize
+    requires t_bound { t.0 < type_count links.now.words.now }
+    requires settled { Settled (chain_graph links.now.words.now) work.old }
+    ensures cycle_count { CycleCount (chain_graph links.now.words.now) t.0 result }
+    ensures upper_bound { result ≤ type_count links.now.words.now }
     ensures work_unchanged { work.new ≡ work.old }
 {
     let mut none = [0; 1];
-    first_cycle(words, targets, t, work, &mut none)
+    first_cycle(links, t, work, &mut none)
 }
 
 // The counts of all types, behind their marks.
-fn fill_counts(words: &[u32], targets: &[u16], work: &mut [u32])
-    requires linked { Linked words.now targets.now }
-    requires words_in_bounds { work_words * type_count words.now ≤ length work.old }
-    requires settled { Settled (chain_graph words.now) work.old }
-    ensures { Counted (chain_graph words.now) work.old work.new }
+fn fill_counts(links: &Links, work: &mut [u32])
+    requires words_in_bounds { work_words * type_count links.now.words.now ≤ length work.old }
+    requires settled { Settled (chain_graph links.now.words.now) work.old }
+    ensures { Counted (chain_graph links.now.words.now) work.old work.new }
 {
-    settle(words, targets, work);
-    let types = types_in(words);
+    settle(links, work);
+    let types = types_in(links.words);
     let counts_at = Work { types }.counts_at();
-    let mut t = 0;
-    while t < types {
-        let n = count_cycle(words, targets, TypeRow(t as u32), work);
+    for t in 0..types {
+        let n = count_cycle(links, TypeRow(t as u32), work);
         work[counts_at + t] = n as u32;
-        t += 1;
     }
 }
 
@@ -61,5 +56,9 @@ pub fn count_cycles(words: &[u32], l: Layout, work: &mut [u32])
 {
     let mut targets = [0; 8192];
     link(words, l, &mut targets);
-    fill_counts(words, &targets, work);
+    let links = Links {
+        words,
+        targets: &targets,
+    };
+    fill_counts(&links, work);
 }

@@ -12,8 +12,7 @@ use Rattle.table.specs.declared.layout.Layout.{Layout}
 use Rattle.table.specs.Layout.{type_count, field_count, most_types, most_fields, fields_start, fields_end, start_at}
 use Rattle.wellformed.specs.Sound.{Sound}
 use Rattle.table.specs.declared.numbers.TypeRow.{TypeRow}
-use Rattle.rows.specs.declared.types.FoundType.{FoundType}
-use Rattle.rows.specs.declared.types.FoundType.TheVariants.{At, Nothing}
+use Rattle.std.specs.Prelude.{Option, Some, None}
 use Rattle.rows.specs.Types.{found_at}
 use Rattle.rows.specs.Readable.{SoundRows}
 use Rattle.rows.proofs.FoundTypes.{at_below, at_row, nothing_none}
@@ -101,47 +100,47 @@ module _ (g : Graph) (t f : ℕ) where
     pub leads : g.next f ≡ u.0
     pub type : u.0 < g.types
 
-  led_at : (u : TypeRow) → chain_to g t f ≡ At u → Led u
+  led_at : (u : TypeRow) → chain_to g t f ≡ Some u → Led u
   unfolding chain_to
   led_at u e =
       ⊎_elim
       (λ (b : leb (g.start t) f && ltb f (g.stop t) ≡ true).
-      let k : found_at (g.next f) g.types ≡ At u = rw b at e in
+      let k : found_at (g.next f) g.types ≡ Some u = rw b at e in
       let low = at_below _ _ u k in
       let row = at_row _ _ u k in
       record { chain = and_true b (lt-ltb _ _ low); leads = sym row; type = rw row low })
       (λ (b : leb (g.start t) f && ltb f (g.stop t) ≡ false).
-      let k : Nothing ≡ At u = rw b at e in
+      let k : None ≡ Some u = rw b at e in
       let z : ◌≡◌ {A = ℕ} 0 1 = cc in absurd (omega arith))
       (decide (leb (g.start t) f && ltb f (g.stop t)))
 
-  led_nothing : chain_to g t f ≡ Nothing → chain_field g t f ≡ false
+  led_nothing : chain_to g t f ≡ None → chain_field g t f ≡ false
   unfolding chain_to
   led_nothing e =
       ⊎_elim
       (λ (b : leb (g.start t) f && ltb f (g.stop t) ≡ true).
-      let k : found_at (g.next f) g.types ≡ Nothing = rw b at e in
+      let k : found_at (g.next f) g.types ≡ None = rw b at e in
       rw (b, le-ltb _ _ (nothing_none _ _ k)))
       (λ (b : leb (g.start t) f && ltb f (g.stop t) ≡ false). rw b)
       (decide (leb (g.start t) f && ltb f (g.stop t)))
 
-  pub led : (r : FoundType) → r ≡ chain_to g t f → (u : TypeRow) → r ≡ At u → Led u
+  pub led : (r : Option TypeRow) → r ≡ chain_to g t f → (u : TypeRow) → r ≡ Some u → Led u
   led r e u a = led_at u (sym e ∙ a)
 
-  pub not_led : (r : FoundType) → r ≡ chain_to g t f → r ≡ Nothing → chain_field g t f ≡ false
+  pub not_led : (r : Option TypeRow) → r ≡ chain_to g t f → r ≡ None → chain_field g t f ≡ false
   not_led r e a = led_nothing (sym e ∙ a)
 
 -- what an answer of `target` says
-module _ (x n m : ℕ) (same : m ≡ n) (r : FoundType) (e : r ≡ found_at x m) where
+module _ (x n m : ℕ) (same : m ≡ n) (r : Option TypeRow) (e : r ≡ found_at x m) where
   -- the type that a field leads to is u
   pub record Leads (u : TypeRow) : Type 0 where
     pub below : ltb x n ≡ true
     pub row : x ≡ u.0
 
-  pub leads_at : (u : TypeRow) → r ≡ At u → Leads u
+  pub leads_at : (u : TypeRow) → r ≡ Some u → Leads u
   leads_at u a = let k = sym e ∙ a in record { below = lt-ltb _ _ (rw same at (at_below x m u k)); row = sym (at_row x m u k) }
 
-  pub leads_nowhere : r ≡ Nothing → ltb x n ≡ false
+  pub leads_nowhere : r ≡ None → ltb x n ≡ false
   leads_nowhere a = le-ltb _ _ (rw same at (nothing_none x m (sym e ∙ a)))
 
 -- rule 6 of a field, where its type is not nearer

@@ -1,12 +1,14 @@
 -- Laws of the tests that the rules are made of, beside those of the crate names.
-use mathlib.Core.Path.{◌≡◌, refl, sym}
+use mathlib.Core.Path.{◌≡◌, refl, sym, ap, ◌∙◌}
 use mathlib.Core.Logic.{◌⊎◌, ⊎_elim}
-use mathlib.Core.Bool.{Bool, true, false, ◌||◌, beq, false≢true}
-use Prim.Native.Nat.{ℕ, suc, zero, ◌+◌, ◌<◌}
+use mathlib.Core.Bool.{Bool, true, false, ◌&&◌, ◌||◌, beq, false≢true, and-true, or-false, and_assoc, or_assoc}
+use Prim.Native.Nat.{ℕ, suc, zero, ◌+◌, ◌-◌, ◌≤◌, ◌<◌}
 use native.Mathlib.Omega.{arith}
-use native.Mathlib.Nat.{eq-or-lt_of_le, le_of_suc-le-suc}
-use native.Mathlib.Numerals.{add-one}
-use Rattle.names.proofs.BoolLaws.{or_cases, or_true}
+use native.Mathlib.Nat.{eq-or-lt_of_le, le_of_suc-le-suc, add-zero, zero-add}
+use Rattle.std.specs.List.{list_all, list_any, range_with_len}
+use Rattle.names.specs.Count.{every}
+use Rattle.names.proofs.CountLaws.{every_none, every_next, every_intro}
+use Rattle.names.proofs.BoolLaws.{or_cases, or_true, below_or_from}
 use Rattle.wellformed.specs.WellFormed.{unless}
 use Rattle.evidence.specs.Rules.{implies, any}
 
@@ -71,11 +73,33 @@ module _ (p : ℕ → Bool) where
       (λ l'. or_first (any p n) (p n) (any_of n k l' e))
       (last_or_below l)
 
-  -- as a loop begins and goes on
-  pub any_none : any p 0 ≡ false
-  unfolding any
-  any_none = refl
+-- what an iterator answers over the numbers from a up to b, and over those below n
+all_next : (p : ℕ → Bool) (a n : ℕ) → list_all p (range_with_len a (suc n)) ≡ list_all p (range_with_len a n) && p (a + n)
+all_next p a zero = and-true (p a) ∙ ap p (sym (add-zero a))
+all_next p a (suc n) =
+    let e : a + 1 + n ≡ a + suc n = omega arith in
+    ap (λ x. p a && x) (all_next p (a + 1) n) ∙ sym (and_assoc (p a) (list_all p (range_with_len (a + 1) n)) (p (a + 1 + n))) ∙ ap (λ k. p a && list_all p (range_with_len (a + 1) n) && p k) e
 
-  pub any_more : (n : ℕ) → any p n ≡ false → p n ≡ false → any p (n + 1) ≡ false
-  unfolding any
-  any_more n h e = rw (add-one, h, e) refl
+all_upto : (p : ℕ → Bool) (a n : ℕ) → list_all p (range_with_len a n) ≡ every p a (a + n)
+all_upto p a zero = rw add-zero (sym (every_none p a))
+all_upto p a (suc n) =
+    let e : a + suc n ≡ a + n + 1 = omega arith in
+    rw (e, all_next, all_upto p a n) (sym (every_next p a (a + n) (omega arith)))
+
+pub all_every : (p : ℕ → Bool) (a b : ℕ) → list_all p (range_with_len a (b - a)) ≡ every p a b
+all_every p a b =
+    ⊎_elim
+    (λ (h : b < a). let e : b - a ≡ 0 = omega arith in rw e (sym (every_intro p a b (λ i l k. absurd (omega arith)))))
+    (λ (h : a ≤ b). let e : a + (b - a) ≡ b = omega arith in rw e at (all_upto p a (b - a)))
+    (below_or_from b a)
+
+any_next : (p : ℕ → Bool) (a n : ℕ) → list_any p (range_with_len a (suc n)) ≡ list_any p (range_with_len a n) || p (a + n)
+any_next p a zero = or-false (p a) ∙ ap p (sym (add-zero a))
+any_next p a (suc n) =
+    let e : a + 1 + n ≡ a + suc n = omega arith in
+    ap (λ x. p a || x) (any_next p (a + 1) n) ∙ sym (or_assoc (p a) (list_any p (range_with_len (a + 1) n)) (p (a + 1 + n))) ∙ ap (λ k. p a || list_any p (range_with_len (a + 1) n) || p k) e
+
+pub any_below : (p : ℕ → Bool) (n : ℕ) → list_any p (range_with_len 0 n) ≡ any p n
+unfolding any
+any_below p zero = refl
+any_below p (suc n) = any_next p 0 n ∙ rw (zero-add, any_below p n) refl

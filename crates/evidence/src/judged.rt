@@ -1,9 +1,9 @@
-// The answer of the judge.
+// What the judge finds.
 use table::numbers::TypeRow;
 
-// The evidence passes, or this is the first type row that breaks a rule, with its lowest rule.
-#[derive(Clone, Copy)]
-pub enum Judged {
-    Pass,
-    Broken { row: TypeRow, rule: u32 },
+// The first type row that breaks a rule, with its lowest rule.
+#[derive(Clone, Copy, PartialEq, Eq)]
+pub struct Broken {
+    pub row: TypeRow,
+    pub rule: u32,
 }

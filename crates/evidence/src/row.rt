@@ -3,11 +3,11 @@ ghost use Rattle.std.specs.Prelude.{◌≡◌, ◌+◌, ◌*◌, ◌<◌, eqb};
 ghost use Rattle.table.specs.Layout.{none};
 ghost use Rattle.evidence.specs.Words.{evidence_words, place_of, word_of, number, leader, out_field, out_distance, in_field, in_depth, marked, leads};
 
-use table::layout::{Layout, wide};
+use table::layout::Layout;
 use table::numbers::TypeRow;
 
-// Which of the six.
-#[derive(Clone, Copy)]
+// Which of the six, in the order in which they stand in a row.
+#[derive(Clone, Copy, PartialEq, Eq)]
 pub enum EvidenceColumn {
     Number,
     Leader,
@@ -21,63 +21,41 @@ impl EvidenceColumn {
     // How many there are in a row.
     pub const COUNT: usize = 6;
 
-    // Where the word stands in a row.
-    fn place(self) -> usize
-        ensures value { result ≡ place_of self }
-        ensures upper_bound { result < 6 }
-    {
-        match self {
-            EvidenceColumn::Number => 0,
-            EvidenceColumn::Leader => 1,
-            EvidenceColumn::OutField => 2,
-            EvidenceColumn::OutDistance => 3,
-            EvidenceColumn::InField => 4,
-            EvidenceColumn::InDepth => 5,
-        }
-    }
-
     // Where the word of type t stands in a table of evidence.
     pub fn at(self, t: TypeRow) -> usize
         ensures { result ≡ evidence_words * t.0 + place_of self }
     {
-        EvidenceColumn::COUNT * (t.0 as usize) + self.place()
+        EvidenceColumn::COUNT * t.index() + self as usize
     }
 }
 
 // A word of evidence; NONE stands in the last five of a type that is not marked.
-#[derive(Clone, Copy)]
+#[derive(Clone, Copy, PartialEq, Eq)]
 pub struct EvidenceWord(pub u32);
 
 impl EvidenceWord {
     pub const NONE: EvidenceWord = EvidenceWord(Layout::NONE);
-
-    pub fn is_none(self) -> bool
-        ensures { result ≡ eqb self.0 none }
-    {
-        self.0 == EvidenceWord::NONE.0
-    }
 }
 
 // A word of row t, and 0 past the end.
 fn word_of(ev: &[u32], t: TypeRow, k: EvidenceColumn) -> EvidenceWord
     ensures { result.0 ≡ word_of ev.now t.0 k }
 {
-    let at = k.at(t);
-    EvidenceWord(if at < ev.len() { ev[at] } else { 0 })
+    EvidenceWord(ev.get(k.at(t)).copied().unwrap_or(0))
 }
 
 // The word of row t is NONE.
 pub fn none_at(ev: &[u32], t: TypeRow, k: EvidenceColumn) -> bool
     ensures { result ≡ eqb (word_of ev.now t.0 k) none }
 {
-    word_of(ev, t, k).is_none()
+    word_of(ev, t, k) == EvidenceWord::NONE
 }
 
 pub fn number(ev: &[u32], t: TypeRow) -> usize
     ensures value { result ≡ number ev.now t.0 }
     ensures upper_bound { result < 4294967296 }
 {
-    wide(word_of(ev, t, EvidenceColumn::Number).0)
+    word_of(ev, t, EvidenceColumn::Number).0 as usize
 }
 
 pub fn leader(ev: &[u32], t: TypeRow) -> TypeRow
@@ -90,28 +68,28 @@ pub fn out_field(ev: &[u32], t: TypeRow) -> usize
     ensures value { result ≡ out_field ev.now t.0 }
     ensures upper_bound { result < 4294967296 }
 {
-    wide(word_of(ev, t, EvidenceColumn::OutField).0)
+    word_of(ev, t, EvidenceColumn::OutField).0 as usize
 }
 
 pub fn out_distance(ev: &[u32], t: TypeRow) -> usize
     ensures value { result ≡ out_distance ev.now t.0 }
     ensures upper_bound { result < 4294967296 }
 {
-    wide(word_of(ev, t, EvidenceColumn::OutDistance).0)
+    word_of(ev, t, EvidenceColumn::OutDistance).0 as usize
 }
 
 pub fn in_field(ev: &[u32], t: TypeRow) -> usize
     ensures value { result ≡ in_field ev.now t.0 }
     ensures upper_bound { result < 4294967296 }
 {
-    wide(word_of(ev, t, EvidenceColumn::InField).0)
+    word_of(ev, t, EvidenceColumn::InField).0 as usize
 }
 
 pub fn in_depth(ev: &[u32], t: TypeRow) -> usize
     ensures value { result ≡ in_depth ev.now t.0 }
     ensures upper_bound { result < 4294967296 }
 {
-    wide(word_of(ev, t, EvidenceColumn::InDepth).0)
+    word_of(ev, t, EvidenceColumn::InDepth).0 as usize
 }
 
 pub fn marked(ev: &[u32], t: TypeRow) -> bool
@@ -124,5 +102,5 @@ pub fn marked(ev: &[u32], t: TypeRow) -> bool
 pub fn leads(ev: &[u32], t: TypeRow) -> bool
     ensures { result ≡ leads ev.now t.0 }
 {
-    leader(ev, t).same(t)
+    leader(ev, t) == t
 }

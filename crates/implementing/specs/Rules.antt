@@ -1,45 +1,25 @@
--- The rules over edges, by their names in the code: what each lists, for the numbers that the code hands on together.
-use Rattle.std.specs.Prelude.{cond, List, ℕ, ◌+◌}
+-- What the loop over defined edges is handed: a rule, which is asked for the row of an edge and for its interface. What it may answer is
+-- `post e t o r u`: for edge e and interface t, lent the output o, r records, and u is then left.
+use Rattle.std.specs.Prelude.{cond, List, ℕ, ◌≤◌, ◌<◌, Option, Some, None}
+use denote.Ref.{MutBor}
+use Rattle.table.specs.declared.numbers.TypeRow.{TypeRow}
 use Rattle.records.specs.declared.Record.{Record}
-use Rattle.records.specs.Records.{each, when}
-use Rattle.rows.specs.declared.types.FoundType.{FoundType}
-use Rattle.rows.specs.declared.types.FoundType.TheVariants.{At, Nothing}
+use Rattle.records.specs.Records.{Emitted}
 use Rattle.rows.specs.Types.{is_interface, type_named}
-use Rattle.rows.specs.Parts.{edge_rows, edge_name_in}
-use Rattle.implementing.specs.Interface.{undefined_edge, transitive_edges, implemented_fields, edges_records}
-use Rattle.implementing.specs.declared.edge_rule.DefinedRule.{DefinedRule}
-use Rattle.implementing.specs.declared.edge_rule.DefinedRule.TheVariants.{Transitive, Fields}
-use Rattle.implementing.specs.declared.edge_rule.EdgeRule.{EdgeRule}
-use Rattle.implementing.specs.declared.edge_rule.EdgeRule.TheVariants.{Undefined, Defined}
-use Rattle.matching.specs.declared.implementor.Implementor.{Implementor}
-use Rattle.matching.specs.Rules.{each_field}
 
 -- the row of the interface with the name, as a search for it answers
-unfoldable pub found_interface : (w : List ℕ) (n : ℕ) → FoundType
-found_interface w n = cond (is_interface w n) (At (record { 0 = type_named w n })) Nothing
+unfoldable pub found_interface : (w : List ℕ) (n : ℕ) → Option TypeRow
+found_interface w n = cond (is_interface w n) (Some (record { 0 = type_named w n })) None
 
--- a rule for a defined edge
-unfoldable pub defined_rule : DefinedRule → (w : List ℕ) (own : Implementor) (edges fields : List ℕ) (viaEdge interfaceType : ℕ) → List Record
-defined_rule Transitive w own edges fields viaEdge interfaceType = transitive_edges w own.ty.0 edges viaEdge interfaceType
-defined_rule (Fields rule) w own edges fields viaEdge interfaceType = each_field rule w own fields viaEdge interfaceType
+-- it may be asked for any edge and any of so many types
+abbrev pub Callable : (ℕ → TypeRow → MutBor (List ℕ) → Type 0) → ℕ → Type 0
+Callable pre types = (e : ℕ) (t : TypeRow) (o : MutBor (List ℕ)) → t.0 < types → pre e t o
 
--- for edge i, if it is defined
-unfoldable pub defined_edge : DefinedRule → (w : List ℕ) (own : Implementor) (edges fields : List ℕ) (i : ℕ) → List Record
-defined_edge rule w own edges fields i =
-    when (is_interface w (edge_name_in edges i)) (defined_rule rule w own edges fields (own.edges_first + i) (type_named w (edge_name_in edges i)))
+module _ (post : ℕ → TypeRow → MutBor (List ℕ) → ℕ → MutBor (List ℕ) → Type 0) (types : ℕ) where
+  -- for each it lists what `list` says
+  abbrev pub ListsDefined : (ℕ → ℕ → List Record) → Type 0
+  ListsDefined list = (e : ℕ) (t : TypeRow) (o : MutBor (List ℕ)) (r : ℕ) (u : MutBor (List ℕ)) → t.0 < types → post e t o r u → Emitted (list e t.0) o.now u.now r
 
--- a rule for edge i
-unfoldable pub edge_rule : EdgeRule → (w : List ℕ) (own : Implementor) (edges fields : List ℕ) (i : ℕ) → List Record
-edge_rule Undefined w own edges fields i = undefined_edge w own.ty.0 own.edges_first edges i
-edge_rule (Defined rule) w own edges fields i = defined_edge rule w own edges fields i
-
--- for all edges
-unfoldable pub each_edge : EdgeRule → (w : List ℕ) (own : Implementor) (edges fields : List ℕ) → List Record
-each_edge rule w own edges fields = each (edge_rule rule w own edges fields) (edge_rows edges)
-
--- the last three loops over the edges of an implementor, and all five
-abbrev pub implemented_list : (w : List ℕ) (own : Implementor) (edges fields : List ℕ) → List Record
-implemented_list w own edges fields = implemented_fields w own.ty.0 own.edges_first edges own.fields_first fields
-
-abbrev pub edges_list : (w : List ℕ) (own : Implementor) (edges fields : List ℕ) → List Record
-edges_list w own edges fields = edges_records w own.ty.0 own.edges_first edges own.fields_first fields
+  -- and no more than so many
+  abbrev pub AtMostDefined : ℕ → Type 0
+  AtMostDefined most = (e : ℕ) (t : TypeRow) (o : MutBor (List ℕ)) (r : ℕ) (u : MutBor (List ℕ)) → t.0 < types → post e t o r u → r ≤ most

@@ -12,73 +12,69 @@
 ghost use Rattle.std.specs.Prelude.{◌≡◌, ◌<◌};
 ghost use Rattle.rows.specs.Readable.{SoundRows};
 ghost use Rattle.links.specs.Fields.{is_input_object, chain_graph};
-ghost use Rattle.links.specs.Links.{Linked};
 ghost use Rattle.evidence.specs.Rules.{lowest};
-ghost use Rattle.evidence.specs.Judged.{judged_of};
+ghost use Rattle.evidence.specs.Judged.{judged_of, rule_broken};
 
 use crate::rule::{rule1, rule2, rule3, rule4, rule5, rule6, rule7};
-use evidence::judged::Judged;
-use links::link;
+use evidence::judged::Broken;
+use links::{Links, link};
 use table::layout::Layout;
 use table::numbers::TypeRow;
 
 mod rule;
 
-// The lowest rule that row t breaks, and 0 where it breaks none.
-fn lowest(words: &[u32], l: Layout, targets: &[u16], ev: &[u32], t: TypeRow) -> u32
-    requires sound_rows { SoundRows words.now l }
-    requires linked { Linked words.now targets.now }
+// The lowest rule that row t breaks, if it breaks one.
+#[tactic(auto, unfolding(evidence::specs::Rules::lowest))]
+fn lowest(links: &Links, l: Layout, ev: &[u32], t: TypeRow) -> Option<u32>
+    requires sound_rows { SoundRows links.now.words.now l }
     requires t_lt_types { t.0 < l.types }
-    ensures { result ≡ lowest (chain_graph words.now) (is_input_object words.now) ev.now t.0 }
+    ensures { result ≡ rule_broken (lowest (chain_graph links.now.words.now) (is_input_object links.now.words.now) ev.now t.0) }
 {
     if !rule1(l.types, ev, t) {
-        return 1;
+        return Some(1);
     }
     if !rule2(ev, t) {
-        return 2;
+        return Some(2);
     }
-    if !rule3(words, l, ev, t) {
-        return 3;
+    if !rule3(links.words, l, ev, t) {
+        return Some(3);
     }
     if !rule4(ev, t) {
-        return 4;
+        return Some(4);
     }
-    if !rule5(words, targets, ev, t) {
-        return 5;
+    if !rule5(links, ev, t) {
+        return Some(5);
     }
-    if !rule6(words, targets, ev, t) {
-        return 6;
+    if !rule6(links, ev, t) {
+        return Some(6);
     }
-    if !rule7(words, targets, ev, t) {
-        return 7;
-    }
-    0
+    (!rule7(links, ev, t)).then_some(7)
 }
 
-// Pass, or the first type row that breaks a rule, with its lowest rule.
-fn judge_rows(words: &[u32], l: Layout, targets: &[u16], ev: &[u32]) -> Judged
-    requires sound_rows { SoundRows words.now l }
-    requires linked { Linked words.now targets.now }
-    ensures { result ≡ judged_of words.now ev.now }
+// None where it passes, or the first type row that breaks a rule, with its lowest rule.
+fn judge_rows(links: &Links, l: Layout, ev: &[u32]) -> Option<Broken>
+    requires { SoundRows links.now.words.now l }
+    ensures { result ≡ judged_of links.now.words.now ev.now }
 {
-    let mut t = 0;
-    while t < l.types {
+    for t in 0..l.types {
         let row = TypeRow(t as u32);
-        let rule = lowest(words, l, targets, ev, row);
-        if rule != 0 {
-            return Judged::Broken { row, rule };
+        if let Some(rule) = lowest(links, l, ev, row) {
+            return Some(Broken { row, rule });
         }
-        t += 1;
     }
-    Judged::Pass
+    None
 }
 
 // The same, where what the fields lead to is looked up first.
-pub fn check_evidence(words: &[u32], l: Layout, ev: &[u32]) -> Judged
+pub fn check_evidence(words: &[u32], l: Layout, ev: &[u32]) -> Option<Broken>
     requires { SoundRows words.now l }
     ensures { result ≡ judged_of words.now ev.now }
 {
     let mut targets = [0; 8192];
     link(words, l, &mut targets);
-    judge_rows(words, l, &targets, ev)
+    let links = Links {
+        words,
+        targets: &targets,
+    };
+    judge_rows(&links, l, ev)
 }

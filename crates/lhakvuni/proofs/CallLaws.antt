@@ -1,19 +1,17 @@
 -- The calls keep their promises at each of their ends.
 use mathlib.Core.Path.{◌≡◌, refl, sym, ap, ◌∙◌}
 use mathlib.Core.Bool.{true, false}
-use mathlib.Core.Logic.{◌≢◌, inr, ⊎_elim}
+use mathlib.Core.Logic.{inr, ⊎_elim}
 use mathlib.Core.List.{List, [], ◌++◌}
 use Prim.Native.Nat.{ℕ, ◌*◌, ◌≤◌, ◌<◌}
 use native.Mathlib.Omega.{arith}
 use lib.ListN.{length, drop, replicate, length-replicate}
 use lib.Seq.{drop_at}
 use Rattle.table.specs.declared.layout.Layout.{Layout}
-use Rattle.table.specs.declared.refusal.Refusal.{Refusal}
-use Rattle.wellformed.specs.declared.check.Verdict.{Verdict}
-use Rattle.wellformed.specs.declared.check.Verdict.TheVariants.{WellFormed, Refused}
-use Rattle.wellformed.specs.Answers.{verdict_number, Proper}
+use Rattle.std.specs.Prelude.{Ok, Err}
+use Rattle.table.specs.declared.refusal.Malformed.{Malformed}
+use Rattle.wellformed.specs.Answers.{Verdict, verdict_number, Proper}
 use Rattle.table.specs.Layout.{layout_of, type_count}
-use Rattle.table.specs.Refusals.{no_input_object, short_work}
 use Rattle.wellformed.specs.WellFormed.{refusal}
 use Rattle.records.specs.Records.{flat}
 use Rattle.validation.specs.Validation.{records as list_of}
@@ -23,15 +21,16 @@ use Rattle.chains.specs.Answer.{CycleRows}
 use Rattle.links.specs.Chains.{Graph}
 use Rattle.chains.specs.Cycles.{PathTo, PathTo.last, PathTo.step}
 use Rattle.chains.proofs.Counts.{cycle_count, count_right, cycle_rows, rows_right}
-use Rattle.lhakvuni.specs.declared.answer.Answer.{Answer}
-use Rattle.lhakvuni.specs.declared.answer.Answer.TheVariants.{Refused as Refuse}
+use Rattle.lhakvuni.specs.declared.refusal.Refusal.{Refusal}
+use Rattle.lhakvuni.specs.declared.refusal.Refusal.TheVariants.{Malformed as Refused, NoInputObject, ShortWork}
+use Rattle.lhakvuni.specs.Answers.{Answer, refusal_number, need_of}
 use Rattle.lhakvuni.specs.Promise.{Output}
 use Rattle.lhakvuni.specs.Calls.{input_object_at, records_number, cycle_number, Listed, RecordsKept, FirstCycleKept}
 use Rattle.lhakvuni.specs.Outputs.{CycleOutput}
 use Rattle.counting.specs.Counting.{Counted, counts_in}
 use Rattle.counting.proofs.CountingLaws.{counts_part}
 use Rattle.lhakvuni.proofs.PromiseLaws.{promise_refused, promise_given}
-use Rattle.lhakvuni.proofs.NumberLaws.{types_are, records_refused, cycle_refused, refusal_some, work_short, work_long, records_number_lem, cycle_row, cycle_work, row_below}
+use Rattle.lhakvuni.proofs.NumberLaws.{types_are, records_refused, cycle_refused, work_short, work_long, records_number_lem, cycle_row, cycle_work, row_below}
 use Rattle.names.proofs.BoolLaws.{below_or_from}
 
 -- words cleared twice, and left alone between
@@ -44,40 +43,27 @@ cleared_again k W X Y Z first kept again =
 pub listed : (text w : List ℕ) → Listed text w (list_of text w (cycle_count w))
 listed text w = record { counts = cycle_count w; right = count_right w; list = refl }
 
--- the refusals of the calls have numbers of their own
-abbrev pub work_refusal : Refusal
-work_refusal = record { 0 = short_work }
-
-abbrev row_refusal : Refusal
-row_refusal = record { 0 = no_input_object }
-
-pub nine : ◌≢◌ {A = ℕ} short_work 0
-nine e = absurd (omega arith)
-
-seven : ◌≢◌ {A = ℕ} no_input_object 0
-seven e = absurd (omega arith)
-
 -- a refusal, whatever its reason
-records_refuse : (text w work out : List ℕ) (n : Refusal) → records_number text w work ≡ n.0 → n.0 ≢ 0 → RecordsKept text w work out work out (Refuse n)
-records_refuse text w work out n e h =
+records_refuse : (text w work out : List ℕ) (r : Refusal) → records_number text w work ≡ refusal_number r → ((v : ℕ) → need_of r v ≡ v) → RecordsKept text w work out work out (Err r)
+records_refuse text w work out r e need =
     record {
       rows = list_of text w (cycle_count w);
       listed = listed text w;
-      promise = promise_refused _ _ _ _ work out n e h;
+      promise = promise_refused _ _ _ _ work out r e need;
     }
 
 module _ (text w : List ℕ) (v : Verdict) (e : verdict_number v ≡ refusal text w) where
   -- the table's refusals
-  pub records_table : (work out : List ℕ) → Proper v → (n : Refusal) → v ≡ Refused n → RecordsKept text w work out work out (Refuse n)
-  records_table work out p n r = records_refuse text w work out n (records_refused v text w e p n r work) (refusal_some v text w e p n r)
+  pub records_table : (work out : List ℕ) → Proper v → (m : Malformed) → v ≡ Err m → RecordsKept text w work out work out (Err (Refused m))
+  records_table work out p m r = records_refuse text w work out (Refused m) (records_refused v text w e p m r work) (λ v. refl)
 
-  module _ (good : v ≡ WellFormed) (l : Layout) (same : l ≡ layout_of w) where
+  module _ (good : v ≡ Ok tt) (l : Layout) (same : l ≡ layout_of w) where
     pub accepted : refusal text w ≡ 0
     accepted = sym e ∙ ap verdict_number good
 
     -- a work table that is too short
-    pub records_work : (work out : List ℕ) → length work < work_words * l.types → RecordsKept text w work out work out (Refuse work_refusal)
-    records_work work out h = records_refuse text w work out work_refusal (records_number_lem text w accepted work ∙ work_short w l same work_words work h) nine
+    pub records_work : (work out : List ℕ) → length work < work_words * l.types → RecordsKept text w work out work out (Err ShortWork)
+    records_work work out h = records_refuse text w work out ShortWork (records_number_lem text w accepted work ∙ work_short w l same work_words work h) (λ v. refl)
 
     -- an output that is too short, or a success: the work words were cleared, the counts filled in, the rows written or not, and the work words cleared again
     pub records_given : (work start mid work' out out' : List ℕ) (a : Answer) → work_words * l.types ≤ length work
@@ -110,30 +96,30 @@ cycle_rows_lem w t =
     (below_or_from t (type_count w))
 
 -- the same of `first_cycle`
-cycle_refuse : (text w : List ℕ) (t : ℕ) (work out : List ℕ) (n : Refusal) → cycle_number text w t work ≡ n.0 → n.0 ≢ 0 → FirstCycleKept text w t work out work out (Refuse n)
-cycle_refuse text w t work out n e h =
+cycle_refuse : (text w : List ℕ) (t : ℕ) (work out : List ℕ) (r : Refusal) → cycle_number text w t work ≡ refusal_number r → ((v : ℕ) → need_of r v ≡ v) → FirstCycleKept text w t work out work out (Err r)
+cycle_refuse text w t work out r e need =
     record {
       rows = (cycle_rows_lem w t).0;
       first = (cycle_rows_lem w t).1;
-      promise = promise_refused _ _ _ _ work out n e h;
+      promise = promise_refused _ _ _ _ work out r e need;
     }
 
 module _ (text w : List ℕ) (v : Verdict) (e : verdict_number v ≡ refusal text w) where
-  pub cycle_table : (t : ℕ) (work out : List ℕ) → Proper v → (n : Refusal) → v ≡ Refused n → FirstCycleKept text w t work out work out (Refuse n)
-  cycle_table t work out p n r = cycle_refuse text w t work out n (cycle_refused v text w e p n r t work) (refusal_some v text w e p n r)
+  pub cycle_table : (t : ℕ) (work out : List ℕ) → Proper v → (m : Malformed) → v ≡ Err m → FirstCycleKept text w t work out work out (Err (Refused m))
+  cycle_table t work out p m r = cycle_refuse text w t work out (Refused m) (cycle_refused v text w e p m r t work) (λ v. refl)
 
-  module _ (good : v ≡ WellFormed) (l : Layout) (same : l ≡ layout_of w) (t : ℕ) where
+  module _ (good : v ≡ Ok tt) (l : Layout) (same : l ≡ layout_of w) (t : ℕ) where
     -- no input object
-    pub cycle_no_row : (work out : List ℕ) → input_object_at w t ≡ false → FirstCycleKept text w t work out work out (Refuse row_refusal)
-    cycle_no_row work out h = cycle_refuse text w t work out row_refusal (cycle_row text w (accepted text w v e good l same) t work h) seven
+    pub cycle_no_row : (work out : List ℕ) → input_object_at w t ≡ false → FirstCycleKept text w t work out work out (Err NoInputObject)
+    cycle_no_row work out h = cycle_refuse text w t work out NoInputObject (cycle_row text w (accepted text w v e good l same) t work h) (λ v. refl)
 
     module _ (z : input_object_at w t ≡ true) where
       pub cycle_below : t < l.types
       cycle_below = rw (types_are w l same) (row_below w t z)
 
       -- a work table that is too short
-      pub cycle_work_short : (work out : List ℕ) → length work < work_words * l.types → FirstCycleKept text w t work out work out (Refuse work_refusal)
-      cycle_work_short work out h = cycle_refuse text w t work out work_refusal (cycle_work text w (accepted text w v e good l same) t work z ∙ work_short w l same work_words work h) nine
+      pub cycle_work_short : (work out : List ℕ) → length work < work_words * l.types → FirstCycleKept text w t work out work out (Err ShortWork)
+      cycle_work_short work out h = cycle_refuse text w t work out ShortWork (cycle_work text w (accepted text w v e good l same) t work z ∙ work_short w l same work_words work h) (λ v. refl)
 
       -- an output that is too short, or a success
       pub cycle_given : (work work' out out' : List ℕ) (a : Answer) → work_words * l.types ≤ length work → CycleOutput (chain_graph w) t out out' a

@@ -3,9 +3,7 @@ use mathlib.Core.Path.{◌≡◌, sym, ap, ◌∙◌}
 use mathlib.Core.List.{List}
 use Prim.Native.Nat.{ℕ}
 use Rattle.wellformed.specs.WellFormed.{refusal}
-use Rattle.lhakvuni.specs.declared.answer.Answer.{Answer}
-use Rattle.lhakvuni.specs.declared.judging.Judgement.{Judgement}
-use Rattle.lhakvuni.specs.Answers.{answer_number, value_of, judgement_number, broken_row, broken_rule}
+use Rattle.lhakvuni.specs.Answers.{Answer, Judgement, answer_number, value_of, judgement_number, broken_row, broken_rule}
 use Rattle.lhakvuni.specs.Exports.{RecordsExported, FirstCycleExported, JudgedExported, EvidenceExported}
 use Rattle.lhakvuni.proofs.OneAnswer.{one_records, one_first_cycle}
 use Rattle.lhakvuni.proofs.EvidenceLaws.{one_judgement, one_evidence}

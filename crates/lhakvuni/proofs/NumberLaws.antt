@@ -1,6 +1,6 @@
 -- The first refusal of a call, by the checks in their order.
 use mathlib.Core.Path.{◌≡◌, refl, sym, ap, subst, ◌∙◌}
-use mathlib.Core.Bool.{true, false}
+use mathlib.Core.Bool.{Bool, true, false}
 use mathlib.Core.Logic.{◌≢◌}
 use mathlib.Core.List.{List}
 use Prim.Native.Nat.{ℕ, zero, suc, ◌*◌, ◌≤◌, ◌<◌}
@@ -9,14 +9,14 @@ use lib.Dec.{ltb}
 use lib.ListN.{length}
 use borrow.Author.Tests.{lt-ltb, le-ltb, ltb-true, eq-eqb, ne_eqb}
 use Rattle.table.specs.declared.layout.Layout.{Layout}
-use Rattle.table.specs.declared.refusal.Refusal.{Refusal}
-use Rattle.wellformed.specs.declared.check.Verdict.{Verdict}
-use Rattle.wellformed.specs.declared.check.Verdict.TheVariants.{Refused}
-use Rattle.wellformed.specs.Answers.{verdict_number, Proper}
+use Rattle.std.specs.Prelude.{Err}
+use Rattle.table.specs.declared.refusal.Malformed.{Malformed}
+use Rattle.table.specs.Answers.{malformed_number}
+use Rattle.wellformed.specs.Answers.{Verdict, verdict_number, Proper}
 use Rattle.table.specs.Layout.{layout_of, type_count, header_words}
 use Rattle.table.specs.Refusals.{no_input_object, wrong_evidence, short_work}
 use Rattle.wellformed.specs.Sound.{Sound}
-use Rattle.wellformed.specs.WellFormed.{refusal}
+use Rattle.wellformed.specs.WellFormed.{unless, has_header, in_limits, right_length, names_right, rows_good, names_distinct, refusal_laid, refusal}
 use Rattle.rows.specs.Readable.{SoundRows, Readable}
 use Rattle.rows.proofs.ReadableLaws.{sound_rows, readable}
 use Rattle.names.proofs.BoolLaws.{and_left}
@@ -33,28 +33,38 @@ pub or_next_lem : (n next : ℕ) → n ≡ 0 → or_else n next ≡ next
 or_next_lem n next h = rw h
 
 -- a table that is refused
-module _ (v : Verdict) (text w : List ℕ) (e : verdict_number v ≡ refusal text w) (p : Proper v) (n : Refusal) (r : v ≡ Refused n) where
-  pub refusal_is : refusal text w ≡ n.0
+module _ (v : Verdict) (text w : List ℕ) (e : verdict_number v ≡ refusal text w) (p : Proper v) (m : Malformed) (r : v ≡ Err m) where
+  pub refusal_is : refusal text w ≡ malformed_number m
   refusal_is = sym e ∙ ap verdict_number r
 
-  pub refusal_some : n.0 ≢ 0
-  refusal_some = let k : Proper (Refused n) = rw r at p in omega arith
+  pub refusal_some : malformed_number m ≢ 0
+  refusal_some = let k : Proper (Err m) = rw r at p in omega arith
 
-  pub records_refused : (work : List ℕ) → records_number text w work ≡ n.0
+  pub records_refused : (work : List ℕ) → records_number text w work ≡ malformed_number m
   unfolding records_number
-  records_refused work = rw refusal_is (or_first n.0 _ refusal_some)
+  records_refused work = rw refusal_is (or_first (malformed_number m) _ refusal_some)
 
-  pub cycle_refused : (t : ℕ) (work : List ℕ) → cycle_number text w t work ≡ n.0
+  pub cycle_refused : (t : ℕ) (work : List ℕ) → cycle_number text w t work ≡ malformed_number m
   unfolding cycle_number
-  cycle_refused t work = rw refusal_is (or_first n.0 _ refusal_some)
+  cycle_refused t work = rw refusal_is (or_first (malformed_number m) _ refusal_some)
 
-  pub judge_refused : (ev : List ℕ) → judge_number text w ev ≡ n.0
+  pub judge_refused : (ev : List ℕ) → judge_number text w ev ≡ malformed_number m
   unfolding judge_number
-  judge_refused ev = rw refusal_is (or_first n.0 _ refusal_some)
+  judge_refused ev = rw refusal_is (or_first (malformed_number m) _ refusal_some)
 
-  pub make_refused : (work : List ℕ) → make_number text w work ≡ n.0
+  pub make_refused : (work : List ℕ) → make_number text w work ≡ malformed_number m
   unfolding make_number
-  make_refused work = rw refusal_is (or_first n.0 _ refusal_some)
+  make_refused work = rw refusal_is (or_first (malformed_number m) _ refusal_some)
+
+-- the table's refusals are 1 to 6
+pub refusal_most : (text w : List ℕ) → refusal text w ≤ 6
+unfolding refusal refusal_laid
+refusal_most text w = few (has_header w) _ _ (omega arith) (few (in_limits text (layout_of w)) _ _ (omega arith) (few (right_length w (layout_of w)) _ _ (omega arith)
+    (few (names_right text w (layout_of w)) _ _ (omega arith) (few (rows_good w (layout_of w)) _ _ (omega arith) (few (names_distinct w (layout_of w)) _ _ (omega arith) (omega arith))))))
+  where
+    few : (b : Bool) (n m : ℕ) → n ≤ 6 → m ≤ 6 → unless b n m ≤ 6
+    few true n m p q = q
+    few false n m p q = p
 
 -- a well-formed table, by its own layout
 module _ (w : List ℕ) (l : Layout) (same : l ≡ layout_of w) where

@@ -8,11 +8,10 @@ use lib.ListN.{length}
 use Rattle.table.specs.Layout.{type_count}
 use Rattle.records.specs.declared.Record.{Record}
 use Rattle.records.specs.Records.{each, flat}
-use Rattle.validation.specs.Validation.{type_records}
-use Rattle.validation.specs.Validation.{records as list_of}
+use Rattle.validation.specs.Validation.{type_records, records as list_of}
 use Rattle.links.specs.Fields.{chain_graph}
 use Rattle.chains.proofs.Order.{rows_unique, count_unique}
-use Rattle.lhakvuni.specs.declared.answer.Answer.{Answer}
+use Rattle.lhakvuni.specs.Answers.{Answer}
 use Rattle.lhakvuni.specs.Promise.{Promised}
 use Rattle.chains.specs.Work.{work_words}
 use Rattle.lhakvuni.specs.Calls.{work_number, records_number, cycle_number, Listed, RecordsKept, FirstCycleKept}

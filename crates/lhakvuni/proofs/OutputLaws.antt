@@ -11,7 +11,8 @@ use Rattle.records.proofs.Records.{flat_length}
 use Rattle.links.specs.Chains.{Graph}
 use Rattle.chains.specs.Answer.{CycleCount, CycleAnswered}
 use Rattle.chains.proofs.Order.{rows_unique}
-use Rattle.lhakvuni.specs.declared.answer.Answer.TheVariants.{Rows, Short}
+use Rattle.std.specs.Prelude.{Ok, Err}
+use Rattle.lhakvuni.specs.declared.refusal.Refusal.TheVariants.{ShortOut}
 use Rattle.lhakvuni.specs.Promise.{Output}
 use Rattle.lhakvuni.specs.Outputs.{CycleOutput}
 use Rattle.lhakvuni.proofs.PromiseLaws.{output_short, output_done}
@@ -37,33 +38,33 @@ module _ (L : List Record) (n need : ℕ) (out mid : List ℕ) (count : n ≡ le
   need_is : need ≡ length (flat L)
   need_is = omega (arith, flat_length L)
 
-  pub records_none : n ≡ 0 → Output (length L) (flat L) out mid (Rows 0)
+  pub records_none : n ≡ 0 → Output (length L) (flat L) out mid (Ok 0)
   records_none z =
       let k : length (flat L) ≡ 0 = omega (arith, flat_length L) in
-      output_done (length L) (flat L) out mid (Rows 0) (omega arith) (ap Rows (sym z ∙ count)) (rw (no_words (flat L) k) same)
+      output_done (length L) (flat L) out mid (Ok 0) (omega arith) (ap Ok (sym z ∙ count)) (rw (no_words (flat L) k) same)
 
-  pub records_short : length mid < need → Output (length L) (flat L) out mid (Short need)
+  pub records_short : length mid < need → Output (length L) (flat L) out mid (Err (ShortOut need))
   records_short h =
       let k : length out < length (flat L) = omega (arith, need_is, ap length same) in
-      subst (λ (o : List ℕ). Output (length L) (flat L) out o (Short need)) (sym same) (output_short (length L) (flat L) out (Short need) k (ap Short need_is))
+      subst (λ (o : List ℕ). Output (length L) (flat L) out o (Err (ShortOut need))) (sym same) (output_short (length L) (flat L) out (Err (ShortOut need)) k (ap (λ (x : ℕ). Err (ShortOut x)) need_is))
 
-  pub records_done : (out' : List ℕ) (m : ℕ) → need ≤ length mid → Emitted L mid out' m → Output (length L) (flat L) out out' (Rows n)
+  pub records_done : (out' : List ℕ) (m : ℕ) → need ≤ length mid → Emitted L mid out' m → Output (length L) (flat L) out out' (Ok n)
   records_done out' m h e =
       let c : row_words * m ≡ length (flat L) = omega (arith, e.count, flat_length L) in
       let r : out' ≡ flat L ++ drop (row_words * m) mid = e.room (omega (arith, e.count)) in
-      output_done (length L) (flat L) out out' (Rows n) (omega (arith, need_is, ap length same)) (ap Rows count) (rw (c, same) at r)
+      output_done (length L) (flat L) out out' (Ok n) (omega (arith, need_is, ap length same)) (ap Ok count) (rw (c, same) at r)
 
 -- a first cycle
 module _ (g : Graph) (t n : ℕ) (out : List ℕ) (counted : CycleCount g t n) where
-  pub cycle_short : length out < n → CycleOutput g t out out (Short n)
+  pub cycle_short : length out < n → CycleOutput g t out out (Err (ShortOut n))
   cycle_short h =
       record {
         rows = counted.fields;
         first = counted.right;
-        output = output_short (length counted.fields) counted.fields out (Short n) (omega (arith, counted.count)) (ap Short counted.count);
+        output = output_short (length counted.fields) counted.fields out (Err (ShortOut n)) (omega (arith, counted.count)) (ap (λ (x : ℕ). Err (ShortOut x)) counted.count);
       }
 
-  pub cycle_done : (out' : List ℕ) (m : ℕ) → n ≤ length out → CycleAnswered g t out out' m → CycleOutput g t out out' (Rows n)
+  pub cycle_done : (out' : List ℕ) (m : ℕ) → n ≤ length out → CycleAnswered g t out out' m → CycleOutput g t out out' (Ok n)
   cycle_done out' m h f =
       let e : counted.fields ≡ f.fields = rows_unique g t counted.fields f.fields counted.right f.right in
       let k : n ≡ length f.fields = counted.count ∙ ap length e in
@@ -71,5 +72,5 @@ module _ (g : Graph) (t n : ℕ) (out : List ℕ) (counted : CycleCount g t n) w
       record {
         rows = f.fields;
         first = f.right;
-        output = output_done (length f.fields) f.fields out out' (Rows n) (omega arith) (ap Rows k) (rw a at f.written);
+        output = output_done (length f.fields) f.fields out out' (Ok n) (omega arith) (ap Ok k) (rw a at f.written);
       }

@@ -2,47 +2,91 @@
 use mathlib.Core.Path.{◌≡◌, refl, sym, ap, ◌∙◌}
 use mathlib.Core.Logic.{◌≢◌, ⊎_elim}
 use mathlib.Core.List.{List, ◌++◌}
-use Prim.Native.Nat.{ℕ, ◌≤◌, ◌<◌}
+use Prim.Native.Nat.{ℕ, zero, suc, ◌≤◌, ◌<◌}
 use native.Mathlib.Omega.{arith}
 use lib.Dec.{ltb, eqb}
 use lib.ListN.{length, drop, replicate}
 use borrow.Author.Tests.{eqb-true, eqb-false, ltb-true, ltb-false}
 use Rattle.names.proofs.BoolLaws.{decide}
-use Rattle.table.specs.declared.refusal.Refusal.{Refusal}
+use Rattle.table.proofs.AnswerLaws.{malformed_of, malformed_back}
+use Rattle.table.specs.declared.refusal.Malformed.{Malformed}
+use Rattle.table.specs.declared.refusal.Malformed.TheVariants.{TooFewWords, AboveLimit, WrongLength, BadNames, BadWord, Twice}
 use Rattle.table.specs.Refusals.{short_out}
-use Rattle.lhakvuni.specs.declared.answer.Answer.{Answer}
-use Rattle.lhakvuni.specs.declared.answer.Answer.TheVariants.{Rows, Refused, Short}
-use Rattle.lhakvuni.specs.Answers.{Returned}
+use Rattle.std.specs.Prelude.{Ok, Err}
+use Rattle.lhakvuni.specs.declared.refusal.Refusal.{Refusal}
+use Rattle.lhakvuni.specs.declared.refusal.Refusal.TheVariants.{Malformed as Refused, NoInputObject, WrongEvidence, ShortWork, ShortOut}
+use Rattle.lhakvuni.specs.Answers.{Answer, refusal_number, need_of, Returned}
 use Rattle.lhakvuni.specs.Promise.{Output, Promised}
 
-returned_short : (a : Answer) (n : ℕ) → a ≡ Short n → Returned a short_out (λ _. n)
+-- the refusal of a number and of what is returned beside it
+call_refusal : ℕ → ℕ → Refusal
+call_refusal zero v = NoInputObject
+call_refusal (suc zero) v = WrongEvidence
+call_refusal (suc (suc zero)) v = ShortWork
+call_refusal n v = ShortOut v
+
+pub refusal_of : ℕ → ℕ → Refusal
+refusal_of (suc (suc (suc (suc (suc (suc (suc n))))))) v = call_refusal n v
+refusal_of n v = Refused (malformed_of n)
+
+malformed_again : (m : Malformed) (v : ℕ) → refusal_of (refusal_number (Refused m)) v ≡ Refused (malformed_of (refusal_number (Refused m)))
+unfolding refusal_of
+malformed_again TooFewWords v = refl
+malformed_again AboveLimit v = refl
+malformed_again WrongLength v = refl
+malformed_again BadNames v = refl
+malformed_again BadWord v = refl
+malformed_again Twice v = refl
+
+pub refusal_back : (r : Refusal) → refusal_of (refusal_number r) (need_of r 0) ≡ r
+unfolding refusal_of call_refusal
+refusal_back (Refused m) = malformed_again m 0 ∙ ap Refused (malformed_back m)
+refusal_back NoInputObject = refl
+refusal_back WrongEvidence = refl
+refusal_back ShortWork = refl
+refusal_back (ShortOut need) = refl
+
+-- a refusal's number isn't 0
+pub some_number : (r : Refusal) → 1 ≤ refusal_number r
+some_number (Refused TooFewWords) = omega arith
+some_number (Refused AboveLimit) = omega arith
+some_number (Refused WrongLength) = omega arith
+some_number (Refused BadNames) = omega arith
+some_number (Refused BadWord) = omega arith
+some_number (Refused Twice) = omega arith
+some_number NoInputObject = omega arith
+some_number WrongEvidence = omega arith
+some_number ShortWork = omega arith
+some_number (ShortOut need) = omega arith
+
+returned_short : (a : Answer) (n : ℕ) → a ≡ Err (ShortOut n) → Returned a short_out (λ _. n)
 returned_short a n e = rw e record { number_is = refl; value_is = λ v. refl }
 
-returned_rows : (a : Answer) (n : ℕ) → a ≡ Rows n → Returned a 0 (λ _. n)
+returned_rows : (a : Answer) (n : ℕ) → a ≡ Ok n → Returned a 0 (λ _. n)
 returned_rows a n e = rw e record { number_is = refl; value_is = λ v. refl }
 
--- a number and a value belong to one answer: a refusal but 10 has no value of its own
+-- a number and a value belong to one answer
 pub returned_one : (a b : Answer) (n : ℕ) (f : ℕ → ℕ) → Returned a n f → Returned b n f → a ≡ b
-returned_one (Rows x) (Rows y) n f p q = ap Rows (p.value_is 0 ∙ sym (q.value_is 0))
-returned_one (Rows x) (Refused k) n f p q = absurd (omega (arith, p.value_is 0, q.value_is 0, p.value_is 1, q.value_is 1))
-returned_one (Rows x) (Short y) n f p q = absurd (omega (arith, p.number_is, q.number_is))
-returned_one (Refused k) (Rows y) n f p q = absurd (omega (arith, p.value_is 0, q.value_is 0, p.value_is 1, q.value_is 1))
-returned_one (Refused k) (Refused j) n f p q = ap (λ (x : ℕ). Refused (record { 0 = x })) (p.number_is ∙ sym q.number_is)
-returned_one (Refused k) (Short y) n f p q = absurd (omega (arith, p.value_is 0, q.value_is 0, p.value_is 1, q.value_is 1))
-returned_one (Short x) (Rows y) n f p q = absurd (omega (arith, p.number_is, q.number_is))
-returned_one (Short x) (Refused k) n f p q = absurd (omega (arith, p.value_is 0, q.value_is 0, p.value_is 1, q.value_is 1))
-returned_one (Short x) (Short y) n f p q = ap Short (p.value_is 0 ∙ sym (q.value_is 0))
+returned_one (Ok x) (Ok y) n f p q = ap Ok (p.value_is 0 ∙ sym (q.value_is 0))
+returned_one (Ok x) (Err r) n f p q = absurd (omega (arith, p.number_is, q.number_is, some_number r))
+returned_one (Err r) (Ok y) n f p q = absurd (omega (arith, p.number_is, q.number_is, some_number r))
+returned_one (Err r) (Err s) n f p q =
+    let number : refusal_number r ≡ refusal_number s = p.number_is ∙ sym q.number_is in
+    let need : need_of r 0 ≡ need_of s 0 = p.value_is 0 ∙ sym (q.value_is 0) in
+    let same : refusal_of (refusal_number r) (need_of r 0) ≡ refusal_of (refusal_number s) (need_of s 0) = rw (number, need) refl in
+    ap Err (sym (refusal_back r) ∙ same ∙ refusal_back s)
 
-pub output_short : (rows : ℕ) (words out : List ℕ) (a : Answer) → length out < length words → a ≡ Short (length words) → Output rows words out out a
+pub output_short : (rows : ℕ) (words out : List ℕ) (a : Answer) → length out < length words → a ≡ Err (ShortOut (length words)) → Output rows words out out a
 output_short rows words out a h e = record { short = λ _. (returned_short a (length words) e, refl); done = λ k. absurd (omega arith) }
 
-pub output_done : (rows : ℕ) (words out out' : List ℕ) (a : Answer) → length words ≤ length out → a ≡ Rows rows
+pub output_done : (rows : ℕ) (words out out' : List ℕ) (a : Answer) → length words ≤ length out → a ≡ Ok rows
     → out' ≡ words ++ drop (length words) out → Output rows words out out' a
 output_done rows words out out' a h e f = record { short = λ k. absurd (omega arith); done = λ _. (returned_rows a rows e, f) }
 
 module _ (number k rows : ℕ) (words work out : List ℕ) where
-  pub promise_refused : (n : Refusal) → number ≡ n.0 → n.0 ≢ 0 → Promised number k rows words work out work out (Refused n)
-  promise_refused n e h = record { refused = λ _. (record { number_is = sym e; value_is = λ v. refl }, (refl, refl)); given = λ z. absurd (h (sym e ∙ z)) }
+  -- a refusal but 10, which has no value of its own
+  pub promise_refused : (r : Refusal) → number ≡ refusal_number r → ((v : ℕ) → need_of r v ≡ v) → Promised number k rows words work out work out (Err r)
+  promise_refused r e need = record { refused = λ _. (record { number_is = sym e; value_is = need }, (refl, refl)); given = λ z. absurd (omega (arith, some_number r)) }
 
   pub promise_given : (work' out' : List ℕ) (a : Answer) → number ≡ 0 → Output rows words out out' a → work' ≡ replicate k 0 ++ drop k work
       → Promised number k rows words work out work' out' a

@@ -6,11 +6,10 @@ use mathlib.Core.List.{List, ◌∷◌, [], ◌++◌}
 use Prim.Native.Nat.{ℕ, zero, suc, ◌*◌, ◌≤◌, ◌<◌}
 use native.Mathlib.Omega.{arith}
 use lib.ListN.{length, drop, replicate}
-use Rattle.table.specs.Layout.{layout_of}
+use Rattle.table.specs.Layout.{layout_of, none, name_count, type_count, edge_count, field_count, argument_count, member_count, value_count, types_at, edges_at, fields_at, arguments_at, members_at, values_at, roots_at, word_at, start_at}
 use Rattle.names.specs.Count.{every}
 use Rattle.names.specs.Names.{starts_name, continues_name, is_name, before}
 use Rattle.names.specs.Wraps.{layers, bits, good_wrap}
-use Rattle.table.specs.Layout.{none, name_count, type_count, edge_count, field_count, argument_count, member_count, value_count, types_at, edges_at, fields_at, arguments_at, members_at, values_at, roots_at, word_at, start_at}
 use Rattle.wellformed.specs.WellFormed.{in_limits, right_length, name_good, name_rises, names_right, below, wraps_good, ends_good, root_good, roots_good, types_good, all_ends_good, fields_good, arguments_good, lists_good, sections_fit, field_fits, fields_fit, sections_all_fit, fields_all_fit, words_good, rows_good, fresh, distinct, run_distinct, rows_distinct, rows_all_distinct, names_distinct, refusal_laid, refusal}
 use Rattle.wellformed.specs.Examples.{board_text, board_words}
 use Rattle.records.specs.declared.Record.{Record}
@@ -22,8 +21,8 @@ use Rattle.table.specs.Kinds.{input_object_kind}
 use Rattle.links.specs.Fields.{is_input_object}
 use Rattle.chains.specs.Work.{work_words}
 use Rattle.chains.proofs.Counts.{other_none}
-use Rattle.lhakvuni.specs.declared.answer.Answer.{Answer}
-use Rattle.lhakvuni.specs.declared.answer.Answer.TheVariants.{Rows}
+use Rattle.std.specs.Prelude.{Ok}
+use Rattle.lhakvuni.specs.Answers.{Answer}
 use Rattle.lhakvuni.specs.Promise.{Promised}
 use Rattle.lhakvuni.specs.Calls.{records_number, Listed, RecordsKept}
 use Rattle.lhakvuni.proofs.NumberLaws.{records_number_lem, work_long}
@@ -80,11 +79,11 @@ work_fits work h =
 module _ (work out work' out' : List ℕ) (a : Answer) (room : 6 ≤ length work) (fits : 10 ≤ length out) where
   -- the call on the whole case, lent work for two types and an output for two rows or more: two rows, these ten words, and what stood behind
   -- them; the six work words are 0, and those behind them are left
-  pub board_answered : RecordsKept board_text board_words work out work' out' a → (a ≡ Rows 2) × (out' ≡ board_list ++ drop 10 out) × (work' ≡ replicate 6 0 ++ drop 6 work)
+  pub board_answered : RecordsKept board_text board_words work out work' out' a → (a ≡ Ok 2) × (out' ≡ board_list ++ drop 10 out) × (work' ≡ replicate 6 0 ++ drop 6 work)
   unfolding flat
   board_answered kept =
       let same : kept.rows ≡ board_records = one_list board_text board_words kept.rows board_records kept.listed board_listed in
       let promise : Promised (records_number board_text board_words work) 6 2 board_list work out work' out' a = rw (same, types) at kept.promise in
       let given = promise.given (work_fits work room) in
       let done = given.0.done fits in
-      (returned_one a (Rows 2) 0 (λ _. 2) done.0 (record { number_is = refl; value_is = λ v. refl }), done.1, given.1)
+      (returned_one a (Ok 2) 0 (λ _. 2) done.0 (record { number_is = refl; value_is = λ v. refl }), done.1, given.1)

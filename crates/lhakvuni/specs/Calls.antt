@@ -12,9 +12,7 @@ use Rattle.chains.specs.Answer.{CycleRows, CycleCount}
 use Rattle.evidence.specs.Words.{evidence_words}
 use Rattle.evidence.specs.Judged.{judged_of}
 use Rattle.evidence.specs.Canonical.{Canonical}
-use Rattle.lhakvuni.specs.declared.answer.Answer.{Answer}
-use Rattle.lhakvuni.specs.declared.judging.Judgement.{Judgement}
-use Rattle.lhakvuni.specs.Answers.{judgement_of, judgement_number}
+use Rattle.lhakvuni.specs.Answers.{Answer, Judgement, judgement_of, judgement_number}
 use Rattle.lhakvuni.specs.Promise.{Promised}
 
 -- a refusal, and else what follows

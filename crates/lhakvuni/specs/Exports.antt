@@ -1,8 +1,6 @@
 -- What the calls for C promise: those of the calls, with the answer's number returned and its value put in its place.
 use Rattle.std.specs.Prelude.{◌≡◌, List, ℕ}
-use Rattle.lhakvuni.specs.declared.answer.Answer.{Answer}
-use Rattle.lhakvuni.specs.declared.judging.Judgement.{Judgement}
-use Rattle.lhakvuni.specs.Answers.{answer_number, value_of, judgement_number, broken_row, broken_rule}
+use Rattle.lhakvuni.specs.Answers.{Answer, Judgement, answer_number, value_of, judgement_number, broken_row, broken_rule}
 use Rattle.lhakvuni.specs.Calls.{RecordsKept, FirstCycleKept, JudgedKept, EvidenceKept}
 
 pub record RecordsExported (text w work out work' out' : List ℕ) (value value' number : ℕ) : Type 0 where

@@ -4,7 +4,7 @@ use Rattle.links.specs.Chains.{Graph}
 use Rattle.chains.specs.Answer.{CycleRows}
 use Rattle.records.specs.Records.{flat}
 use Rattle.validation.specs.Validation.{records as list_of}
-use Rattle.lhakvuni.specs.declared.answer.Answer.{Answer}
+use Rattle.lhakvuni.specs.Answers.{Answer}
 use Rattle.lhakvuni.specs.Promise.{Output}
 
 -- the records that the counts give, written if they fit

@@ -2,8 +2,7 @@
 -- inputs, refused ones too.
 use Rattle.std.specs.Prelude.{◌≡◌, ◌≢◌, List, ◌++◌, ℕ, ◌≤◌, ◌<◌, length, drop, replicate}
 use Rattle.table.specs.Refusals.{short_out}
-use Rattle.lhakvuni.specs.declared.answer.Answer.{Answer}
-use Rattle.lhakvuni.specs.Answers.{Returned}
+use Rattle.lhakvuni.specs.Answers.{Answer, Returned}
 
 -- the output after a call that is not refused before it: too short, it is left unchanged and the need in words is returned; else the words
 -- of the rows stand at its start, their number is returned, and the words behind them are left

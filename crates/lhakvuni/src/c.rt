@@ -1,27 +1,33 @@
 // The calls as C has them: the number is returned, and what stands beside it is put in its place. crates/lhakvuni_c exports them.
 ghost use Rattle.std.specs.Prelude.{◌≡◌};
 ghost use Rattle.wellformed.specs.WellFormed.{refusal};
-ghost use Rattle.lhakvuni.specs.Answers.{value_of, broken_row, broken_rule};
+ghost use Rattle.lhakvuni.specs.Answers.{number_of, value_of, broken_row, broken_rule};
 ghost use Rattle.lhakvuni.specs.Exports.{RecordsExported, FirstCycleExported, JudgedExported, EvidenceExported};
 
-use crate::answer::{Answer, number};
 use crate::calls::{check_table, first_cycle, records};
-use crate::judging::{Judgement, check_evidence};
+use crate::judging::check_evidence;
 use crate::making::make_evidence;
+use crate::refusal::Refusal;
+use evidence::judged::Broken;
 use table::numbers::TypeRow;
 
-// Puts what an answer returns beside its number in its place, and leaves that alone where there is nothing to return.
-fn put_value(a: Answer, value: &mut u64)
-    ensures { value.new ≡ value_of a value.old }
+// The number of an answer: 0 for a success, or the refusal's.
+pub fn number<T: Copy>(answer: Result<T, Refusal>) -> u32
+    ensures { result ≡ number_of answer }
 {
-    match a {
-        Answer::Rows(n) => {
-            *value = n as u64;
-        }
-        Answer::Refused(_) => {}
-        Answer::Short(need) => {
-            *value = need as u64;
-        }
+    match answer {
+        Ok(_) => 0,
+        Err(refusal) => u32::from(refusal),
+    }
+}
+
+// Puts what an answer returns beside its number in its place, and leaves that alone where there is nothing to return.
+fn put_value(answer: Result<usize, Refusal>, value: &mut u64)
+    ensures { value.new ≡ value_of answer value.old }
+{
+    match answer {
+        Ok(n) | Err(Refusal::ShortOut(n)) => *value = n as u64,
+        Err(_) => {}
     }
 }
 
@@ -40,9 +46,9 @@ pub fn lv_records(
 ) -> u32
     ensures { RecordsExported text.now words.now work.old out.old work.new out.new value.old value.new result }
 {
-    let a = records(text, words, work, out);
-    put_value(a, value);
-    number(a)
+    let answer = records(text, words, work, out);
+    put_value(answer, value);
+    number(answer)
 }
 
 pub fn lv_first_cycle(
@@ -55,26 +61,26 @@ pub fn lv_first_cycle(
 ) -> u32
     ensures { FirstCycleExported text.now words.now type_row work.old out.old work.new out.new value.old value.new result }
 {
-    let a = first_cycle(text, words, TypeRow(type_row), work, out);
-    put_value(a, value);
-    number(a)
+    let answer = first_cycle(text, words, TypeRow(type_row), work, out);
+    put_value(answer, value);
+    number(answer)
 }
 
 // Puts the row and the rule of a judgement in their places, and leaves those alone for a refusal.
-fn put_judgement(j: Judgement, row: &mut u32, rule: &mut u32)
-    ensures row_after { row.new ≡ broken_row j row.old }
-    ensures rule_after { rule.new ≡ broken_rule j rule.old }
+fn put_judgement(judgement: Result<Option<Broken>, Refusal>, row: &mut u32, rule: &mut u32)
+    ensures row_after { row.new ≡ broken_row judgement row.old }
+    ensures rule_after { rule.new ≡ broken_rule judgement rule.old }
 {
-    match j {
-        Judgement::Passes => {
+    match judgement {
+        Ok(None) => {
             *row = TypeRow::NONE.0;
             *rule = 0;
         }
-        Judgement::Breaks { row: t, rule: k } => {
-            *row = t.0;
-            *rule = k;
+        Ok(Some(broken)) => {
+            *row = broken.row.0;
+            *rule = broken.rule;
         }
-        Judgement::Refused(_) => {}
+        Err(_) => {}
     }
 }
 
@@ -87,9 +93,9 @@ pub fn lv_check_evidence(
 ) -> u32
     ensures { JudgedExported text.now words.now evidence.now row.old row.new rule.old rule.new result }
 {
-    let j = check_evidence(text, words, evidence);
-    put_judgement(j, row, rule);
-    crate::judging::number(j)
+    let judgement = check_evidence(text, words, evidence);
+    put_judgement(judgement, row, rule);
+    number(judgement)
 }
 
 pub fn lv_make_evidence(
@@ -101,7 +107,7 @@ pub fn lv_make_evidence(
 ) -> u32
     ensures { EvidenceExported text.now words.now work.old out.old work.new out.new value.old value.new result }
 {
-    let a = make_evidence(text, words, work, out);
-    put_value(a, value);
-    number(a)
+    let answer = make_evidence(text, words, work, out);
+    put_value(answer, value);
+    number(answer)
 }

@@ -5,34 +5,32 @@ ghost use Rattle.wellformed.specs.Answers.{verdict_number, Proper};
 ghost use Rattle.table.specs.Layout.{type_count};
 ghost use Rattle.rows.specs.Readable.{SoundRows, Readable};
 ghost use Rattle.rising.specs.Runs.{EdgesApart, MembersApart};
-ghost use Rattle.rising.specs.Lists.{Prepared};
 ghost use Rattle.records.specs.Records.{Emitted};
 ghost use Rattle.validation.specs.Bounds.{most_records};
 ghost use Rattle.validation.specs.Validation.{records as list_of};
 ghost use Rattle.links.specs.Fields.{chain_graph};
-ghost use Rattle.links.specs.Links.{Linked};
 ghost use Rattle.chains.specs.Work.{trail_at};
 ghost use Rattle.chains.specs.Answer.{Settled};
 ghost use Rattle.counting.specs.Counting.{counts_in};
 ghost use Rattle.lhakvuni.specs.Calls.{input_object_at, RecordsKept, FirstCycleKept};
 ghost use Rattle.lhakvuni.specs.Outputs.{RecordsOutput, CycleOutput};
 
-use crate::answer::Answer;
+use crate::refusal::Refusal;
 use chains::cycle::clear;
 use chains::work::Work;
 use counting::{count_cycle, count_cycles};
-use links::{is_input_object, link};
+use lent::{Schema, Table};
+use links::{Links, is_input_object, link};
 use records::Record;
 use rising::lists::sort_lists;
 use rows::index::index_types;
 use table::layout::{Layout, layout_of};
 use table::numbers::TypeRow;
-use table::refusal::Refusal;
+use table::refusal::Malformed;
 use validation::validate::validate_schema;
-use wellformed::check::Verdict;
 
 // Whether a text and a table are well-formed, or the first of the table's refusals.
-pub fn check_table(text: &[u8], words: &[u32]) -> Verdict
+pub fn check_table(text: &[u8], words: &[u32]) -> Result<(), Malformed>
     ensures result_value { verdict_number result ≡ refusal text.now words.now }
     ensures proper { Proper result }
 {
@@ -40,97 +38,87 @@ pub fn check_table(text: &[u8], words: &[u32]) -> Verdict
 }
 
 // The rules, with the counts of the work table.
-fn list_records(
-    text: &[u8],
-    words: &[u32],
-    l: Layout,
-    index: &[u16],
-    lists: &[u16],
-    work: &[u32],
-    out: &mut [u32],
-) -> usize
-    requires prepared { Prepared text.now words.now l index.now lists.now }
-    requires types_in_bounds { trail_at l.types ≤ length work.now }
-    ensures emitted { Emitted (list_of text.now words.now (counts_in l.types work.now)) out.old out.new result }
+fn list_records(schema: &Schema, work: &[u32], out: &mut [u32]) -> usize
+    requires { trail_at schema.now.table.layout.types ≤ length work.now }
+    ensures emitted { Emitted (list_of schema.now.text.now schema.now.table.words.now (counts_in schema.now.table.layout.types work.now)) out.old out.new result }
     ensures upper_bound { result ≤ most_records }
 {
-    let parts = Work { types: l.types };
+    let parts = Work {
+        types: schema.table.layout.types,
+    };
     let from = parts.counts_at();
     let to = parts.trail_at();
-    validate_schema(text, words, l, index, lists, &work[from..to], out)
+    validate_schema(schema, &work[from..to], out)
 }
 
 // How many records there are: the rules over an empty part of the output.
-fn count_records(
-    text: &[u8],
-    words: &[u32],
-    l: Layout,
-    index: &[u16],
-    lists: &[u16],
-    work: &[u32],
-    out: &mut [u32],
-) -> usize
-    requires prepared { Prepared text.now words.now l index.now lists.now }
-    requires types_in_bounds { trail_at l.types ≤ length work.now }
-    ensures value { result ≡ length (list_of text.now words.now (counts_in l.types work.now)) }
+fn count_records(schema: &Schema, work: &[u32], out: &mut [u32]) -> usize
+    requires { trail_at schema.now.table.layout.types ≤ length work.now }
+    ensures value { result ≡ length (list_of schema.now.text.now schema.now.table.words.now (counts_in schema.now.table.layout.types work.now)) }
     ensures upper_bound { result ≤ most_records }
     ensures out_unchanged { out.new ≡ out.old }
 {
     let end = out.len();
-    list_records(text, words, l, index, lists, work, &mut out[end..])
+    list_records(schema, work, &mut out[end..])
 }
 
 // Writes the records if they fit. Where there are none nothing is left to do.
-fn put_records(
-    text: &[u8],
-    words: &[u32],
-    l: Layout,
-    index: &[u16],
-    lists: &[u16],
-    work: &[u32],
-    out: &mut [u32],
-) -> Answer
-    requires prepared { Prepared text.now words.now l index.now lists.now }
-    requires types_in_bounds { trail_at l.types ≤ length work.now }
-    ensures { RecordsOutput text.now words.now (counts_in l.types work.now) out.old out.new result }
+fn put_records(schema: &Schema, work: &[u32], out: &mut [u32]) -> Result<usize, Refusal>
+    requires { trail_at schema.now.table.layout.types ≤ length work.now }
+    ensures { RecordsOutput schema.now.text.now schema.now.table.words.now (counts_in schema.now.table.layout.types work.now) out.old out.new result }
 {
-    let rows = count_records(text, words, l, index, lists, work, out);
+    let rows = count_records(schema, work, out);
     if rows == 0 {
-        return Answer::Rows(0);
+        return Ok(0);
     }
     let need = Record::WORDS * rows;
     if out.len() < need {
-        return Answer::Short(need);
+        return Err(Refusal::ShortOut(need));
     }
-    list_records(text, words, l, index, lists, work, out);
-    Answer::Rows(rows)
+    list_records(schema, work, out);
+    Ok(rows)
 }
 
 // The same, with what the rules look up: the types by their names, and the names of edges and members in rising order.
-fn write_records(text: &[u8], words: &[u32], l: Layout, work: &[u32], out: &mut [u32]) -> Answer
-    requires readable { Readable text.now words.now l }
+fn write_records<'a>(
+    text: &'a [u8],
+    words: &'a [u32],
+    layout: Layout,
+    work: &[u32],
+    out: &mut [u32],
+) -> Result<usize, Refusal>
+    requires readable { Readable text.now words.now layout }
     requires edges_apart { EdgesApart words.now × MembersApart words.now }
-    requires types_in_bounds { trail_at l.types ≤ length work.now }
-    ensures { RecordsOutput text.now words.now (counts_in l.types work.now) out.old out.new result }
+    requires types_in_bounds { trail_at layout.types ≤ length work.now }
+    ensures { RecordsOutput text.now words.now (counts_in layout.types work.now) out.old out.new result }
 {
     let mut index = [0; 4096];
-    index_types(words, l, &mut index);
+    index_types(words, layout, &mut index);
     let mut lists = [0; 8192];
-    sort_lists(words, l, &mut lists);
-    put_records(text, words, l, &index, &lists, work, out)
+    sort_lists(words, layout, &mut lists);
+    let table = Table {
+        words,
+        layout,
+        index: &index,
+        lists: &lists,
+    };
+    put_records(&Schema { text, table }, work, out)
 }
 
 // The records of a schema, in document 01's order: five words a row, from the start of the output.
-pub fn records(text: &[u8], words: &[u32], work: &mut [u32], out: &mut [u32]) -> Answer
+pub fn records(
+    text: &[u8],
+    words: &[u32],
+    work: &mut [u32],
+    out: &mut [u32],
+) -> Result<usize, Refusal>
     ensures { RecordsKept text.now words.now work.old out.old work.new out.new result }
 {
-    if let Verdict::Refused(refusal) = check_table(text, words) {
-        return Answer::Refused(refusal);
-    }
+    check_table(text, words)?;
     let l = layout_of(words);
     let need = Work { types: l.types }.size();
     if work.len() < need {
-        return Answer::Refused(Refusal::SHORT_WORK);
+        return Err(Refusal::ShortWork);
     }
     clear(work, need);
     count_cycles(words, l, work);
@@ -157,19 +145,17 @@ pub fn first_cycle(
     row: TypeRow,
     work: &mut [u32],
     out: &mut [u32],
-) -> Answer
+) -> Result<usize, Refusal>
     ensures { FirstCycleKept text.now words.now row.0 work.old out.old work.new out.new result }
 {
-    if let Verdict::Refused(refusal) = check_table(text, words) {
-        return Answer::Refused(refusal);
-    }
+    check_table(text, words)?;
     let l = layout_of(words);
     if !is_input_object_row(words, l, row) {
-        return Answer::Refused(Refusal::NO_INPUT_OBJECT);
+        return Err(Refusal::NoInputObject);
     }
     let room = Work { types: l.types }.size();
     if work.len() < room {
-        return Answer::Refused(Refusal::SHORT_WORK);
+        return Err(Refusal::ShortWork);
     }
     clear(work, room);
     let answer = write_cycle(words, l, row, work, out);
@@ -178,29 +164,28 @@ pub fn first_cycle(
 }
 
 // Writes the first cycle if it fits.
-fn put_cycle(
-    words: &[u32],
-    targets: &[u16],
-    t: TypeRow,
-    work: &mut [u32],
-    out: &mut [u32],
-) -> Answer
-    requires linked { Linked words.now targets.now }
-    requires t_bound { t.0 < type_count words.now }
-    requires settled { Settled (chain_graph words.now) work.old }
-    ensures cycle_output { CycleOutput (chain_graph words.now) t.0 out.old out.new result }
+fn put_cycle(links: &Links, t: TypeRow, work: &mut [u32], out: &mut [u32]) -> Result<usize, Refusal>
+    requires t_bound { t.0 < type_count links.now.words.now }
+    requires settled { Settled (chain_graph links.now.words.now) work.old }
+    ensures cycle_output { CycleOutput (chain_graph links.now.words.now) t.0 out.old out.new result }
     ensures work_unchanged { work.new ≡ work.old }
 {
-    let n = count_cycle(words, targets, t, work);
+    let n = count_cycle(links, t, work);
     if out.len() < n {
-        return Answer::Short(n);
+        return Err(Refusal::ShortOut(n));
     }
-    chains::cycle::first_cycle(words, targets, t, work, out);
-    Answer::Rows(n)
+    chains::cycle::first_cycle(links, t, work, out);
+    Ok(n)
 }
 
 // The same, where what the fields lead to is looked up first.
-fn write_cycle(words: &[u32], l: Layout, t: TypeRow, work: &mut [u32], out: &mut [u32]) -> Answer
+fn write_cycle(
+    words: &[u32],
+    l: Layout,
+    t: TypeRow,
+    work: &mut [u32],
+    out: &mut [u32],
+) -> Result<usize, Refusal>
     requires sound_rows { SoundRows words.now l }
     requires t_lt_types { t.0 < l.types }
     requires settled { Settled (chain_graph words.now) work.old }
@@ -209,5 +194,9 @@ fn write_cycle(words: &[u32], l: Layout, t: TypeRow, work: &mut [u32], out: &mut
 {
     let mut targets = [0; 8192];
     link(words, l, &mut targets);
-    put_cycle(words, &targets, t, work, out)
+    let links = Links {
+        words,
+        targets: &targets,
+    };
+    put_cycle(&links, t, work, out)
 }

@@ -7,13 +7,13 @@
 // reads them, and clear them after; run the rules over an empty part of the output first, to learn how many rows there are, and over the output only if they fit.
 #![tactic(auto)]
 
-pub mod answer;
 pub mod c;
 pub mod calls;
 pub mod judging;
 pub mod making;
+pub mod refusal;
 
-pub use answer::Answer;
 pub use calls::{check_table, first_cycle, records};
-pub use judging::{Judgement, check_evidence};
+pub use judging::check_evidence;
 pub use making::make_evidence;
+pub use refusal::Refusal;

@@ -12,11 +12,11 @@ ghost use Rattle.rows.specs.Types.{found_at};
 ghost use Rattle.rows.specs.Readable.{SoundRows};
 ghost use Rattle.rows.specs.Index.{cell_of, Indexed};
 ghost use Rattle.links.specs.Fields.{is_input_object, input_object_named, chain_target, chains_end};
-ghost use Rattle.links.specs.Links.{Resolved};
+ghost use Rattle.links.specs.Links.{Resolved, Linked};
 
 use names::wrap::Wrap;
 use rows::index::{index_types, look_up, row_in};
-use rows::types::{FoundType, type_kind};
+use rows::types::type_kind;
 use table::kinds::Kind;
 use table::layout::{Layout, end_at, fields_ends_in, start_at, type_kinds_in, word_at};
 use table::numbers::{NameNo, TypeRow};
@@ -27,7 +27,7 @@ pub fn is_input_object(words: &[u32], l: Layout, t: TypeRow) -> bool
     requires t_lt_types { t.0 < l.types }
     ensures { result ≡ is_input_object words.now t.0 }
 {
-    Kind::is_input_object(type_kind(words, l, t))
+    Kind::InputObject.is(type_kind(words, l, t))
 }
 
 // Where the fields of a type start.
@@ -40,12 +40,13 @@ pub fn chains_start(words: &[u32], t: TypeRow) -> usize
 }
 
 // Where those end that may be chain fields.
+#[tactic(auto, unfolding(crate::specs::Fields::chains_end, table::specs::Kinds::input_object_kind))]
 pub fn chains_end(words: &[u32], t: TypeRow) -> usize
     requires laid { Laid words.now (layout_of words.now) }
     requires t_bound { t.0 < type_count words.now }
     ensures { result ≡ chains_end words.now t.0 }
 {
-    if Kind::is_input_object(word_at(words, type_kinds_in(words), t.index())) {
+    if Kind::InputObject.is(word_at(words, type_kinds_in(words), t.index())) {
         return end_at(words, fields_ends_in(words), t.index());
     }
     chains_start(words, t)
@@ -68,29 +69,27 @@ fn field_wrap(words: &[u32], l: Layout, f: usize) -> Wrap
 }
 
 // The input object of the name.
-fn input_object_named(words: &[u32], l: Layout, index: &[u16], name: NameNo) -> FoundType
+fn input_object_named(words: &[u32], l: Layout, index: &[u16], name: NameNo) -> Option<TypeRow>
     requires { Indexed words.now l index.now }
     ensures { result ≡ found_at (input_object_named words.now name.0) l.types }
 {
-    let FoundType::At(u) = look_up(words, l, index, name) else {
-        return FoundType::Nothing;
-    };
+    let u = look_up(words, l, index, name)?;
     if is_input_object(words, l, u) {
-        return FoundType::At(u);
+        return Some(u);
     }
-    FoundType::Nothing
+    None
 }
 
 // The type that a field leads to, where it is a chain field, looked up by its name.
-fn field_target(words: &[u32], l: Layout, index: &[u16], f: usize) -> FoundType
+fn field_target(words: &[u32], l: Layout, index: &[u16], f: usize) -> Option<TypeRow>
     requires indexed { Indexed words.now l index.now }
     requires f_lt_fields { f < l.fields }
     ensures { result ≡ found_at (chain_target words.now f) l.types }
 {
-    if field_wrap(words, l, f).same(Wrap::REQUIRED) {
+    if field_wrap(words, l, f) == Wrap::REQUIRED {
         return input_object_named(words, l, index, field_type(words, l, f));
     }
-    FoundType::Nothing
+    None
 }
 
 // The same as a cell: the type's row plus 1, or 0.
@@ -99,7 +98,7 @@ fn field_cell(words: &[u32], l: Layout, index: &[u16], f: usize) -> u16
     requires f_lt_fields { f < l.fields }
     ensures { result ≡ cell_of (chain_target words.now f) (type_count words.now) }
 {
-    let FoundType::At(u) = field_target(words, l, index, f) else {
+    let Some(u) = field_target(words, l, index, f) else {
         return 0;
     };
     (u.0 + 1) as u16
@@ -111,10 +110,8 @@ fn resolve(words: &[u32], l: Layout, index: &[u16], targets: &mut [u16])
     requires fields_in_bounds { l.fields ≤ length targets.old }
     ensures { Resolved words.now targets.new }
 {
-    let mut f = 0;
-    while f < l.fields {
+    for f in 0..l.fields {
         targets[f] = field_cell(words, l, index, f);
-        f += 1;
     }
 }
 
@@ -130,14 +127,45 @@ pub fn link(words: &[u32], l: Layout, targets: &mut [u16])
 }
 
 // The type that a field leads to, where it is a chain field.
-pub fn target(words: &[u32], targets: &[u16], f: usize) -> FoundType
+pub fn target(words: &[u32], targets: &[u16], f: usize) -> Option<TypeRow>
     requires resolved { Resolved words.now targets.now }
     requires f_bound { f < field_count words.now }
     ensures { result ≡ found_at (chain_target words.now f) (type_count words.now) }
 {
-    let cell = targets[f];
-    if cell == 0 {
-        return FoundType::Nothing;
+    row_in(targets[f])
+}
+
+// The words of a table, and what each of its fields leads to.
+#[derive(Clone, Copy)]
+pub struct Links<'a> {
+    pub words: &'a [u32],
+    // A cell for each field, which tells the type that it leads to.
+    pub targets: &'a [u16],
+    ghost linked: { Linked words.now targets.now },
+}
+
+impl Links<'_> {
+    // Where the fields of a type start.
+    pub fn start(&self, t: TypeRow) -> usize
+        requires { t.0 < type_count self.now.words.now }
+        ensures { result ≡ fields_start self.now.words.now t.0 }
+    {
+        chains_start(self.words, t)
     }
-    FoundType::At(row_in(cell))
+
+    // Where those end that may be chain fields.
+    pub fn end(&self, t: TypeRow) -> usize
+        requires { t.0 < type_count self.now.words.now }
+        ensures { result ≡ chains_end self.now.words.now t.0 }
+    {
+        chains_end(self.words, t)
+    }
+
+    // The type that a field leads to, where it is a chain field.
+    pub fn target(&self, f: usize) -> Option<TypeRow>
+        requires { f < field_count self.now.words.now }
+        ensures { result ≡ found_at (chain_target self.now.words.now f) (type_count self.now.words.now) }
+    {
+        target(self.words, self.targets, f)
+    }
 }

@@ -1,15 +1,13 @@
 -- Rows by their names in cells, a cell for each name number: arguments and fields.
-use Rattle.std.specs.Prelude.{◌≢◌, List, ℕ, zero, suc, ◌≤◌, ◌<◌, length}
+use Rattle.std.specs.Prelude.{◌≢◌, List, ℕ, zero, suc, ◌≤◌, ◌<◌, length, Option, Some, None}
 use Rattle.table.specs.Layout.{most_names, most_arguments}
-use Rattle.rows.specs.declared.search.Found.{Found}
-use Rattle.rows.specs.declared.search.Found.TheVariants.{At, Nothing}
 use Rattle.rows.specs.Parts.{argument_rows, argument_name_in, field_rows, field_name_in}
 use Rattle.rows.specs.Index.{Tells}
 
 -- the row that a cell tells
-unfoldable pub found_cell : ℕ → Found
-found_cell zero = Nothing
-found_cell (suc row) = At row
+unfoldable pub found_cell : ℕ → Option ℕ
+found_cell zero = None
+found_cell (suc row) = Some row
 
 -- so many rows are walked through
 abbrev pub few : ℕ

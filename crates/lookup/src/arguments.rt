@@ -7,8 +7,8 @@ ghost use Rattle.lookup.specs.Cells.{few, ArgumentsNamed, ArgumentsTold, Argumen
 
 use crate::cell::{FEW, found_in};
 use rows::cells::{argument_name, argument_rows};
-use rows::index::note;
-use rows::search::{Found, find_argument};
+use rows::index::note_each;
+use rows::search::find_argument;
 use table::numbers::NameNo;
 
 // So few that a walk through them does.
@@ -24,21 +24,21 @@ pub fn index_arguments(arguments: &[u32], cells: &mut [u16])
     requires cells_value { cells.old ≡ replicate most_names 0 }
     ensures { ArgumentsTold arguments.now cells.new }
 {
-    let rows = argument_rows(arguments);
-    let mut i = 0;
-    while i < rows {
-        note(cells, argument_name(arguments, i), i as u32);
-        i += 1;
-    }
+    note_each(
+        argument_rows(arguments),
+        |i| argument_name(arguments, i),
+        cells,
+    );
 }
 
 // From the cells where there are any.
-pub fn look_up_argument(arguments: &[u32], cells: &[u16], name: NameNo) -> Found
+pub fn look_up_argument(arguments: &[u32], cells: &[u16], name: NameNo) -> Option<usize>
     requires { ArgumentsHelped arguments.now cells.now }
     ensures { result ≡ found_row (argument_named arguments.now name.0) (argument_rows arguments.now) }
 {
-    if cells.len() == 0 {
-        return find_argument(arguments, name);
+    if cells.is_empty() {
+        find_argument(arguments, name)
+    } else {
+        found_in(cells, name)
     }
-    found_in(cells, name)
 }

@@ -7,8 +7,8 @@ ghost use Rattle.lookup.specs.Cells.{few, FieldsNamed, FieldsTold, FieldsHelped}
 
 use crate::cell::{FEW, found_in};
 use rows::cells::{field_name, field_rows};
-use rows::index::note;
-use rows::search::{Found, find_field};
+use rows::index::note_each;
+use rows::search::find_field;
 use table::numbers::NameNo;
 
 // So few that a walk through them does.
@@ -24,21 +24,17 @@ pub fn index_fields(fields: &[u32], cells: &mut [u16])
     requires cells_value { cells.old ≡ replicate most_names 0 }
     ensures { FieldsTold fields.now cells.new }
 {
-    let rows = field_rows(fields);
-    let mut i = 0;
-    while i < rows {
-        note(cells, field_name(fields, i), i as u32);
-        i += 1;
-    }
+    note_each(field_rows(fields), |i| field_name(fields, i), cells);
 }
 
 // From the cells where there are any.
-pub fn look_up_field(fields: &[u32], cells: &[u16], name: NameNo) -> Found
+pub fn look_up_field(fields: &[u32], cells: &[u16], name: NameNo) -> Option<usize>
     requires { FieldsHelped fields.now cells.now }
     ensures { result ≡ found_row (field_named fields.now name.0) (field_rows fields.now) }
 {
-    if cells.len() == 0 {
-        return find_field(fields, name);
+    if cells.is_empty() {
+        find_field(fields, name)
+    } else {
+        found_in(cells, name)
     }
-    found_in(cells, name)
 }

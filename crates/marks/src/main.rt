@@ -4,68 +4,47 @@
 
 ghost use Rattle.std.specs.Prelude.{◌≤◌};
 
-use evidence::judged::Judged;
-use evidence::row::{EvidenceColumn, EvidenceWord, marked};
+use evidence::judged::Broken;
+use evidence::row::{EvidenceColumn, marked};
 use judge::check_evidence;
 use producer::make_evidence;
+use shapes::sound::sound_layout;
 use shapes::{
     LADDER_FIELDS, LADDER_WORDS, RING_FIELDS, RING_WORDS, Shape, TEXT, TYPES, write_table,
     write_text,
 };
 use std::io;
-use table::layout::{layout_of, wide};
 use table::numbers::TypeRow;
-use wellformed::check::{Verdict, check_table};
 
 const WORDS: usize = EvidenceColumn::COUNT * TYPES;
-
-fn print(rt: &impl Print, n: usize) -> io::Result<()> {
-    print!(rt; " {n}")
-}
 
 // How many of the first types are marked.
 fn count_marked(ev: &[u32], types: usize) -> usize
     requires { types ≤ 1024 }
 {
-    let mut n = 0;
-    let mut t = 0;
-    while t < types {
-        if marked(ev, TypeRow(t as u32)) {
-            n += 1;
-        }
-        t += 1;
-    }
-    n
+    (0..types as u32)
+        .filter(|t| marked(ev, TypeRow(*t)))
+        .count()
 }
 
-fn print_answer(rt: &impl Print, answer: Judged) -> io::Result<()> {
-    match answer {
-        Judged::Pass => println!(rt; " passes"),
-        Judged::Broken { row, rule } => {
-            print!(rt; " row")?;
-            print(rt, wide(row.0))?;
-            print!(rt; " rule")?;
-            print(rt, wide(rule))?;
-            println!(rt)
-        }
+fn print_answer(rt: &impl Print, broken: Option<Broken>) -> io::Result<()> {
+    match broken {
+        None => println!(rt; " passes"),
+        Some(Broken { row, rule }) => println!(rt; " row {} rule {rule}", row.0),
     }
 }
 
 // One more in a word of the evidence, where that is not NONE.
 fn change(ev: &mut [u32], t: TypeRow, k: EvidenceColumn) {
-    let at = k.at(t);
-    if at < ev.len() {
-        let v = ev[at];
-        if v < EvidenceWord::NONE.0 {
-            ev[at] = v + 1;
-        }
+    if let Some(word) = ev.get_mut(k.at(t)) {
+        *word = word.saturating_add(1);
     }
 }
 
 // Makes the evidence, prints how many types it marks and the judge's answer; and the answer again with one word changed.
 fn run(
     rt: &impl Print,
-    label: &[u8],
+    label: &str,
     text: &[u8],
     words: &[u32],
     t: TypeRow,
@@ -73,23 +52,19 @@ fn run(
     work: &mut [u32],
     out: &mut [u32],
 ) -> io::Result<()> {
-    rt.write_all(label)?;
-    let Verdict::WellFormed = check_table(text, words) else {
+    print!(rt; "{label}")?;
+    let Ok(l) = sound_layout(text, words) else {
         return println!(rt; " refused");
     };
-    let l = layout_of(words);
     let need = EvidenceColumn::COUNT * l.types;
-    if work.len() < need {
-        return println!(rt; " no room");
-    }
-    if out.len() < need {
+    if work.len() < need || out.len() < need {
         return println!(rt; " no room");
     }
     make_evidence(words, l, work, out);
-    print(rt, count_marked(out, l.types))?;
+    print!(rt; " {}", count_marked(out, l.types))?;
     print_answer(rt, check_evidence(words, l, out))?;
     change(out, t, k);
-    rt.write_all(label)?;
+    print!(rt; "{label}")?;
     print_answer(rt, check_evidence(words, l, out))
 }
 
@@ -98,7 +73,7 @@ fn ring(rt: &impl Print, text: &[u8], work: &mut [u32], out: &mut [u32]) -> io::
     write_table(&mut words, Shape::Ring, RING_FIELDS);
     run(
         rt,
-        b"ring",
+        "ring",
         text,
         &words,
         TypeRow(700),
@@ -113,7 +88,7 @@ fn ladder(rt: &impl Print, text: &[u8], work: &mut [u32], out: &mut [u32]) -> io
     write_table(&mut words, Shape::Ladder, LADDER_FIELDS);
     run(
         rt,
-        b"ladder",
+        "ladder",
         text,
         &words,
         TypeRow(701),

@@ -1,4 +1,3 @@
 pub mod Bounds
 pub mod Fields
 pub mod Own
-pub mod Rules

@@ -3,7 +3,7 @@
 // The problem: names may lie over each other, and 4,096 of them may each be nearly all of the text: to read each would be to read the text
 // 4,096 times.
 // The idea: whether a name is a Spec Name is asked of stops, which are found once for the text (src/stops.rt of crates/names). Of two
-// neighbours that start at one place the shorter comes first, and no byte is read; others are compared by blocks.
+// neighbours that start at one place the shorter comes first, and no byte is read; others are compared many bytes at a time.
 #![tactic(auto)]
 
 ghost use Rattle.std.specs.Prelude.{◌≡◌, true, ◌^◌, ◌≤◌, ◌<◌, length};
@@ -46,6 +46,7 @@ pub fn name_bytes<'a>(text: &'a [u8], words: &[u32], l: Layout, n: NameNo) -> &'
     &text[start..end]
 }
 
+#[tactic(auto, unfolding(crate::specs::NameSection::name_good))]
 fn name_good(text: &[u8], words: &[u32], l: Layout, stops: &[u32], n: NameNo) -> bool
     requires laid { Laid words.now l }
     requires n_lt_names { n.0 < l.names }
@@ -54,13 +55,11 @@ fn name_good(text: &[u8], words: &[u32], l: Layout, stops: &[u32], n: NameNo) ->
 {
     let start = name_start(words, l, n);
     let end = name_end(words, l, n);
-    if text.len() < end {
-        return false;
-    }
-    is_name(text, stops, start, end)
+    end <= text.len() && is_name(text, stops, start, end)
 }
 
 // The name comes after the name before it, if there is one. Of two that start at one place, the shorter comes first.
+#[tactic(auto, unfolding(crate::specs::NameSection::name_rises))]
 fn name_rises(text: &[u8], words: &[u32], l: Layout, n: NameNo) -> bool
     requires laid { Laid words.now l }
     requires n_lt_names { n.0 < l.names }
@@ -85,14 +84,7 @@ fn names_good(text: &[u8], words: &[u32], l: Layout, stops: &[u32]) -> bool
     requires stops { Stops text.now stops.now }
     ensures { result ≡ names_good text.now words.now l }
 {
-    let mut i = 0;
-    while i < l.names {
-        if !name_good(text, words, l, stops, NameNo(i as u32)) {
-            return false;
-        }
-        i += 1;
-    }
-    true
+    (0..l.names).all(|i| name_good(text, words, l, stops, NameNo(i as u32)))
 }
 
 fn names_rise(text: &[u8], words: &[u32], l: Layout) -> bool
@@ -100,16 +92,10 @@ fn names_rise(text: &[u8], words: &[u32], l: Layout) -> bool
     requires l_value { names_good text.now words.now l ≡ true }
     ensures { result ≡ names_rise text.now words.now l }
 {
-    let mut i = 0;
-    while i < l.names {
-        if !name_rises(text, words, l, NameNo(i as u32)) {
-            return false;
-        }
-        i += 1;
-    }
-    true
+    (0..l.names).all(|i| name_rises(text, words, l, NameNo(i as u32)))
 }
 
+#[tactic(auto, unfolding(crate::specs::NameSection::names_right))]
 pub fn names_right(text: &[u8], words: &[u32], l: Layout) -> bool
     requires laid { Laid words.now l }
     requires text_len_bound { length text.now ≤ most_text }
@@ -117,8 +103,5 @@ pub fn names_right(text: &[u8], words: &[u32], l: Layout) -> bool
 {
     let mut stops = [0; 1024];
     find_stops(text, &mut stops);
-    if !names_good(text, words, l, &stops) {
-        return false;
-    }
-    names_rise(text, words, l)
+    names_good(text, words, l, &stops) && names_rise(text, words, l)
 }

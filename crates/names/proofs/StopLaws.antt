@@ -3,12 +3,13 @@ use mathlib.Core.Path.{◌≡◌, sym, ap, ◌∙◌}
 use mathlib.Core.Bool.{true, false}
 use mathlib.Core.List.{List}
 use mathlib.Core.Logic.{⊎_elim}
-use Prim.Native.Nat.{ℕ, ◌+◌, ◌-◌, ◌*◌, ◌/◌, ◌%◌, ◌≤◌, ◌<◌}
+use Prim.Native.Nat.{zero-le, ℕ, ◌+◌, ◌-◌, ◌*◌, ◌/◌, ◌%◌, ◌≤◌, ◌<◌}
 use native.Mathlib.Omega.{arith}
 use lib.ListN.{length, get_or, drop, set, length-drop}
 use lib.Seq.{length-take-le, get_or-take, get_or-drop, get_or-set_same, get_or-set_other}
 use lib.Dec.{leb, eqb}
 use borrow.Author.Tests.{leb-true, leb-false, eqb-true, eqb-false}
+use Rattle.std.specs.List.{AllWithin, HoldsAt}
 use Rattle.names.specs.Count.{part}
 use Rattle.names.specs.Names.{continues_name, starts_name, is_name}
 use Rattle.names.specs.Stops.{continue_between, Stop, Stops}
@@ -43,10 +44,7 @@ module _ (text : List ℕ) where
   pub stop_end : Stop text (length text) (length text)
   stop_end = record { after = omega arith; inside = omega arith; passed = continue_none (length text); last = λ h. absurd (omega arith) }
 
-  pub stop_here : (start i : ℕ) → start ≤ i → i ≤ length text → continue_between text start i ≡ true → continues_name (get_or text i 0) ≡ false → Stop text start i
-  stop_here start i h k a b = record { after = h; inside = k; passed = a; last = λ l. b }
-
-  pub stop_later : (start end next : ℕ) → start ≤ end → continue_between text start end ≡ true → Stop text end next → Stop text start next
+  stop_later : (start end next : ℕ) → start ≤ end → continue_between text start end ≡ true → Stop text end next → Stop text start next
   stop_later start end next h a s =
       record { after = omega (arith, s.after); inside = s.inside; passed = continue_join start end next a s.passed; last = s.last }
 
@@ -87,6 +85,26 @@ module _ (text : List ℕ) (start end : ℕ) (h : start ≤ end) (k : end ≤ le
 
   first_byte : start < end → get_or (part text start end) 0 0 ≡ get_or text start 0
   first_byte l = let e : start + 0 ≡ start = omega arith in rw e at (part_byte 0 (omega arith))
+
+  -- a search of the part for the first byte that continues no name passes those before it
+  passed_part : (i : ℕ) → i ≤ end - start → AllWithin (λ b. continues_name b ≡ true) (part text start end) 0 i → continue_between text start (start + i) ≡ true
+  unfolding continue_between
+  passed_part i l a =
+      every_intro (λ j. continues_name (get_or text j 0)) start (start + i) (λ j p q.
+      let e : start + (j - start) ≡ j = omega arith in
+      ap continues_name (rw e at (sym (part_byte (j - start) (omega arith)))) ∙ a (j - start) 0 zero-le (omega arith))
+
+  -- it finds the stop
+  pub stop_found : (i : ℕ) → (i < length (part text start end)) × HoldsAt (λ b. continues_name b ≡ false) (part text start end) i × AllWithin (λ b. continues_name b ≡ true) (part text start end) 0 i → Stop text start (start + i)
+  stop_found i f =
+      let l : i < end - start = omega (arith, f.0, part_length) in
+      record { after = omega arith; inside = omega arith; passed = passed_part i (omega arith) f.2; last = λ _. ap continues_name (sym (part_byte i l)) ∙ f.1 0 }
+
+  -- or there is none in the part
+  pub stop_behind : (next : ℕ) → AllWithin (λ b. continues_name b ≡ true) (part text start end) 0 (length (part text start end)) → Stop text end next → Stop text start next
+  stop_behind next a s =
+      let e : start + (end - start) ≡ end = omega arith in
+      stop_later text start end next h (rw e at (passed_part (end - start) (omega arith) (rw part_length at a))) s
 
   pub part_empty : start ≡ end → is_name (part text start end) ≡ false
   part_empty e = let z : end - start ≡ 0 = omega arith in name_empty (part text start end) (part_length ∙ z)

@@ -10,26 +10,16 @@ ghost use Rattle.names.specs.Stops.{most_blocks, most_bytes, Stop, Stops, contin
 
 use crate::name::{continues_name, starts_name};
 
-fn wide(x: u32) -> usize
-    ensures { result ≡ x }
-{
-    x as usize
-}
-
 // The stop from `start` on, where `next` is that from `end` on.
 fn first_stop(text: &[u8], start: usize, end: usize, next: usize) -> usize
-    requires start_le_end { start ≤ end }
+    requires start_le_end { (start ≤ end) × (end ≤ length text.now) }
     requires stop { Stop text.now end next }
     ensures { Stop text.now start result }
 {
-    let mut i = start;
-    while i < end {
-        if !continues_name(text[i]) {
-            return i;
-        }
-        i += 1;
+    match text[start..end].iter().position(|b| !continues_name(*b)) {
+        Some(i) => start + i,
+        None => next,
     }
-    next
 }
 
 // The stop from each block on, the last block first.
@@ -39,9 +29,7 @@ pub fn find_stops(text: &[u8], stops: &mut [u32])
 {
     let mut end = text.len();
     let mut next = end;
-    let mut k = (end + 63) / 64;
-    while 0 < k {
-        k -= 1;
+    for k in (0..end.div_ceil(64)).rev() {
         next = first_stop(text, 64 * k, end, next);
         stops[k] = next as u32;
         end = 64 * k;
@@ -54,16 +42,13 @@ fn all_continue(text: &[u8], stops: &[u32], start: usize, end: usize) -> bool
     requires stops { Stops text.now stops.now }
     ensures { result ≡ continue_between text.now start end }
 {
-    let mut i = start;
-    while i < end {
+    for i in start..end {
         if i % 64 == 0 {
-            let k = i / 64;
-            return end <= wide(stops[k]);
+            return end <= stops[i / 64] as usize;
         }
         if !continues_name(text[i]) {
             return false;
         }
-        i += 1;
     }
     true
 }
@@ -77,8 +62,5 @@ pub fn is_name(text: &[u8], stops: &[u32], start: usize, end: usize) -> bool
     if start == end {
         return false;
     }
-    if !starts_name(text[start]) {
-        return false;
-    }
-    all_continue(text, stops, start, end)
+    starts_name(text[start]) && all_continue(text, stops, start, end)
 }

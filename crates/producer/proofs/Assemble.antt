@@ -1,5 +1,5 @@
 -- The six passes one after the other leave the canonical evidence.
-use mathlib.Core.Path.{◌≡◌, refl, sym, ap, ◌∙◌}
+use mathlib.Core.Path.{◌≡◌, refl, sym, ◌∙◌}
 use mathlib.Core.Logic.{⊎_elim, ◌≢◌}
 use mathlib.Core.List.{List, ◌++◌}
 use Prim.Native.Nat.{ℕ, ◌+◌, ◌*◌, ◌≤◌, ◌<◌}
@@ -7,22 +7,19 @@ use native.Mathlib.Omega.{arith}
 use lib.ListN.{length, get_or, take, drop, replicate, length-take}
 use lib.Seq.{get_or-take}
 use Rattle.links.specs.Chains.{Graph}
-use Rattle.links.specs.Fields.{chain_graph}
 use Rattle.table.specs.declared.layout.Layout.{Layout}
 use Rattle.table.specs.Layout.{none, type_count}
 use Rattle.evidence.specs.declared.row.EvidenceColumn.{EvidenceColumn}
-use Rattle.evidence.specs.declared.row.EvidenceColumn.TheVariants.{Number, Leader, OutField, OutDistance, InField, InDepth}
+use Rattle.evidence.specs.declared.row.EvidenceColumn.TheVariants.{Number, OutField, OutDistance, InField, InDepth}
 use Rattle.evidence.specs.Words.{evidence_words, number, leader, out_field, out_distance, in_field, in_depth}
 use Rattle.evidence.specs.Canonical.{Marks, Marks.on, Marks.off, Row, Canonical}
 use Rattle.chains.specs.Work.{trail_at}
 use Rattle.searching.specs.Search.{Cleared}
-use Rattle.producer.specs.Produced.{Filled, NumberIs, LeaderIs, WordIs, Right, AllRight, measures, ranks, levels, Filling, Whole, PassKept, Rooms, Made}
+use Rattle.producer.specs.Produced.{Filled, NumberIs, LeaderIs, WordIs, Right, AllRight, measures, ranks, levels, Whole, PassKept, Rooms}
 use Rattle.rows.specs.Readable.{SoundRows}
 use Rattle.evidence.proofs.ChainLaws.{chained}
 use Rattle.evidence.proofs.Unique.{Agree, agree_back}
 use Rattle.searching.proofs.Reach.{zeros_cleared}
-use Rattle.links.specs.Links.{Resolved}
-use Rattle.links.proofs.LinkLaws.{linked}
 use Rattle.chains.proofs.RestLaws.{rest_behind}
 use Rattle.producer.proofs.PassLaws.{led_on, led_off, led_kept, numbered_kept, leader_kept, word_as, cleared_join}
 use Rattle.producer.proofs.ChoiceLaws.{word_none, word_some, measured_kept, column_agree, out_as, in_as}
@@ -32,21 +29,6 @@ module _ (g : Graph) where
   -- a pass over every row
   abbrev Pass : EvidenceColumn → List ℕ → List ℕ → Type 0
   Pass k W X = Filled g k g.types W X
-
-  -- after the first pass the numbers are right
-  pub numbered : {W X : List ℕ} → Pass Number W X → Right g Number X
-  numbered f t l = f.words t l
-
-  -- after the second, so are the leaders
-  pub ranked : {O X Y W W' W'' : List ℕ} → Pass Number O X → Pass Leader X Y → Cleared (trail_at g.types) W W' → Cleared (trail_at g.types) W' W''
-      → PassKept g.types (AllRight g ranks) O Y W W''
-  ranked f₀ f₁ c d =
-      record {
-        right = (numbered_kept g f₁.column (omega arith) (numbered f₀), (f₁.words, tt));
-        size = f₁.column.size ∙ f₀.column.size;
-        rest = f₁.column.rest ∙ f₀.column.rest;
-        cleared = cleared_join c d;
-      }
 
   -- with the leaders, distances and depths
   pub leveled : {O X Y W W' W'' : List ℕ} → AllRight g ranks O → Pass OutDistance O X → Pass InDepth X Y → Cleared (trail_at g.types) W W' → Cleared (trail_at g.types) W' W''
@@ -189,50 +171,11 @@ module _ {w : List ℕ} {l : Layout} {O W Y : List ℕ} (s : SoundRows w l) (r :
   cleared_first : Cleared (evidence_words * type_count w) W Y
   cleared_first = let m = r.work_room in rw (e, (chained s).types) (zeros_cleared (evidence_words * type_count w) W (omega arith))
 
-  pub first_room : evidence_words * l.types ≤ length Y
-  first_room = omega (arith, r.work_room, cleared_first.size, (chained s).types)
-
-  -- so the passes may begin
-  pub filling_first : {T : List ℕ} → Resolved w T → Filling w l T Y O
-  filling_first t =
-      let c = cleared_first.clear in
-      record {
-        clear = record { room = omega (arith, c.room); zero = λ i k. c.zero i (omega arith) };
-        help = record { rows = s; linked = linked s t; types = (chained s).types; fields = ap (λ (x : Layout). x.fields) s.laid.same };
-        room = r.out_room;
-      }
-
   -- after them all are cleared, and the words behind are those of the start
   module _ {Z : List ℕ} (c : Cleared (trail_at (type_count w)) Y Z) where
-    pub last_size : length Z ≡ length W
-    last_size = c.size ∙ cleared_first.size
-
     pub cleared_last : replicate (evidence_words * l.types) 0 ++ drop (evidence_words * l.types) Z
         ≡ replicate (evidence_words * type_count w) 0 ++ drop (evidence_words * type_count w) W
     cleared_last =
         let end : ℕ = evidence_words * type_count w in
         let x : drop end Z ≡ drop end Y = rest_behind (trail_at (type_count w)) end Y Z (omega arith) c.rest in
         rw ((chained s).types, x ∙ cleared_first.rest) refl
-
--- a pass leaves room for the next
-pub filling_after : {w : List ℕ} {l : Layout} {Right : List ℕ → Type 0} {T O X W Y : List ℕ} → Filling w l T W O → PassKept (type_count w) Right O X W Y → Filling w l T Y X
-filling_after f p =
-    let e = p.size in
-    let r = f.room in
-    record { clear = p.cleared.clear; help = f.help; room = omega arith }
-
--- the same after one pass
-pub filling_next : {w : List ℕ} {l : Layout} {k : EvidenceColumn} {T O X W Y : List ℕ} → Filling w l T W O
-    → Filled (chain_graph w) k (type_count w) O X → Cleared (trail_at (type_count w)) W Y → Filling w l T Y X
-filling_next f p c =
-    let e = p.column.size in
-    let r = f.room in
-    record { clear = c.clear; help = f.help; room = omega arith }
-
--- one after the other they are as one
-pub passed_join : {n : ℕ} {A B : List ℕ → Type 0} {O X Y W W' W'' : List ℕ} → PassKept n A O X W W' → PassKept n B X Y W' W'' → PassKept n B O Y W W''
-passed_join a b = record { right = b.right; size = b.size ∙ a.size; rest = b.rest ∙ a.rest; cleared = cleared_join a.cleared b.cleared }
-
--- and make the table
-pub made : (g : Graph) {O X W Y : List ℕ} → PassKept g.types (Whole g) O X W Y → Made g O X
-made g p = record { canonical = p.right; size = p.size; rest = p.rest }

@@ -15,7 +15,7 @@ use Rattle.names.proofs.BoolLaws.{true_false, and3, below_or_from}
 use Rattle.evidence.specs.Canonical.{Least}
 use Rattle.producer.specs.Produced.{IfMarked, IfMarked.unmarked, IfMarked.marked, WordIs, AllRight, measures, InFrom, InFrom.nothing, InFrom.lowest, OnlyColumn}
 use Rattle.evidence.proofs.TestLaws.{any_at, any_of}
-use Rattle.evidence.proofs.Kept.{chain_at, out_at, out_true, in_true}
+use Rattle.evidence.proofs.Kept.{chain_at, out_true, in_true}
 use Rattle.evidence.proofs.Exists.{Half, Nothing, out_some, in_some}
 use Rattle.producer.proofs.PassLaws.{led_on, led_off, led_kept, word_as}
 use Rattle.evidence.proofs.Counts.{least_as}
@@ -79,10 +79,6 @@ module _ (g : Graph) (small : g.types ≤ none) (ev : List ℕ) (measured : AllR
       never s b f e
 
 module _ (g : Graph) (ev : List ℕ) where
-  -- the fields before those of the type do not fit
-  pub out_before : (t h : ℕ) → h < g.start t → goes_out g ev t h ≡ true → ⊥
-  out_before t h l e = let k = (out_at g ev t h e).field.low in omega arith
-
   -- the first that fits
   pub out_first : (t f : ℕ) → leader ev t ≢ none → goes_out g ev t f ≡ true → ((h : ℕ) → h < f → goes_out g ev t h ≡ true → ⊥) → WordIs g OutField ev t f
   out_first t f n e below = marked n (least_at e below)
@@ -90,10 +86,6 @@ module _ (g : Graph) (ev : List ℕ) where
   -- a field by which t is entered is a chain field
   comes_chain : (t f s : ℕ) → comes_in g ev t f s ≡ true → Chain g s f (g.next f)
   comes_chain t f s e = chain_at g s f (and3 (chain_field g s f) _ _ e).0
-
-  -- the fields before those of s do not fit
-  pub comes_before : (t s h : ℕ) → h < g.start s → comes_in g ev t h s ≡ true → ⊥
-  comes_before t s h l e = let k = (comes_chain t h s e).low in omega arith
 
   -- the first that fits, of one type
   pub from_first : (t s f : ℕ) → f ≢ none → comes_in g ev t f s ≡ true → ((h : ℕ) → h < f → comes_in g ev t h s ≡ true → ⊥) → InFrom g ev t s f

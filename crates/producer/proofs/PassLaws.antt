@@ -17,19 +17,13 @@ use Rattle.evidence.specs.declared.row.EvidenceColumn.TheVariants.{Number, Leade
 use Rattle.evidence.specs.Words.{evidence_words, place_of, number, leader}
 use Rattle.evidence.specs.Reaches.{Reaches, OnClosedChain}
 use Rattle.evidence.specs.Canonical.{Count, Least, Way, Way.here, Other, Mutual}
-use Rattle.chains.specs.Work.{trail_at}
-use Rattle.searching.specs.Search.{MarkedIn, Searched, Clear, Cleared}
+use Rattle.searching.specs.Search.{MarkedIn, Searched, Cleared}
 use Rattle.producer.specs.Produced.{IfMarked, IfMarked.unmarked, IfMarked.marked, OnlyColumn, Filled, NumberIs, LeaderIs, LeaderIs.on, LeaderIs.off, WordIs, Right, Looked, back, FirstBack, FirstBack.not_back, FirstBack.first, LevelIs}
 use Rattle.evidence.proofs.TestLaws.{last_or_below}
 use Rattle.evidence.proofs.Counts.{count_le, count_lt, count_back, count_unique}
 use Rattle.evidence.proofs.Decide.{count_of, other_decided, reaches_decided}
 use Rattle.evidence.proofs.Marks.{reach_join, reach_end}
 use Rattle.searching.proofs.Reach.{count_as}
-
--- no row is filled yet
-pub filled_none : (g : Graph) (k : EvidenceColumn) (W : List ℕ) → Filled g k 0 W W
-filled_none g k W =
-    record { words = λ t l. absurd (omega arith); column = record { others = λ t d l e. refl; size = refl; rest = refl } }
 
 -- one row more; j is its word's place
 pub filled_more : (g : Graph) (k : EvidenceColumn) (i j v : ℕ) (W X : List ℕ) → j ≡ evidence_words * i + place_of k → place_of k < evidence_words → i < g.types
@@ -59,10 +53,6 @@ filled_more g k i j v W X e low l room f p =
   where
     apart : (t d : ℕ) → d < evidence_words → d ≢ place_of k → evidence_words * t + d ≡ j → ⊥
     apart t d a b q = ⊎_elim (λ (x : t < i). omega arith) (λ x. ⊎_elim (λ (y : i < t). omega arith) (λ y. b (omega arith)) (below_or_from i t)) (below_or_from t i)
-
--- clearing, and clearing again
-pub cleared_refl : {n : ℕ} {W : List ℕ} → Clear n W → Cleared n W W
-cleared_refl c = record { clear = c; size = refl; rest = refl }
 
 pub cleared_join : {n : ℕ} {W X Y : List ℕ} → Cleared n W X → Cleared n X Y → Cleared n W Y
 cleared_join a b = record { clear = b.clear; size = b.size ∙ a.size; rest = b.rest ∙ a.rest }
@@ -111,10 +101,6 @@ module _ (g : Graph) where
   pub number_mutual : {t u n m : ℕ} → u < g.types → NumberIs g t n → NumberIs g u m → Reaches g t u → ((Reaches g u t) ⊎ (Reaches g u t → ⊥)) → m ≡ n → Mutual g t u
   number_mutual b x y r d e =
       ⊎_elim (λ q. (r, q)) (λ apart. let h = number_lower b x y r apart in absurd (omega arith)) d
-
-  -- after a search the work space is cleared
-  pub cleared_after : {t n : ℕ} {W X Y : List ℕ} → Searched g t W X n → Cleared (trail_at g.types) X Y → Cleared (trail_at g.types) W Y
-  cleared_after s c = record { clear = c.clear; size = c.size ∙ s.size; rest = c.rest ∙ s.rest }
 
   -- after a search the types that t reaches are marked
   pub looked : {t n : ℕ} {W X ev : List ℕ} → Searched g t W X n → Right g Number ev → Looked g t X ev

@@ -22,7 +22,7 @@ ghost use Rattle.producer.specs.Produced.{Rooms, Made};
 use crate::fill::fill_all;
 use chains::cycle::clear;
 use evidence::row::EvidenceColumn;
-use links::link;
+use links::{Links, link};
 use table::layout::Layout;
 
 mod fill;
@@ -40,6 +40,10 @@ pub fn make_evidence(words: &[u32], l: Layout, work: &mut [u32], out: &mut [u32]
     link(words, l, &mut targets);
     let room = EvidenceColumn::COUNT * l.types;
     clear(work, room);
-    fill_all(words, l, &targets, work, out);
+    let links = Links {
+        words,
+        targets: &targets,
+    };
+    fill_all(&links, l, work, out);
     clear(work, room);
 }

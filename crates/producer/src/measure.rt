@@ -8,17 +8,18 @@ ghost use Rattle.searching.specs.Search.{MaySearch, Cleared};
 ghost use Rattle.producer.specs.Produced.{NumberIs, LeaderIs, WordIs, Right, LevelIs, back, FirstBack};
 
 use evidence::row::{EvidenceWord, leader, leads, marked, number};
+use links::Links;
 use searching::{clear_search, search};
 use table::layout::Layout;
 use table::numbers::TypeRow;
 
 // How many other types chain fields reach from t.
-pub fn number_of(words: &[u32], l: Layout, targets: &[u16], t: TypeRow, work: &mut [u32]) -> u32
-    requires { MaySearch words.now l targets.now t.0 work.old }
-    ensures number_is { NumberIs (chain_graph words.now) t.0 result }
-    ensures cleared { Cleared (trail_at (type_count words.now)) work.old work.new }
+pub fn number_of(links: &Links, l: Layout, t: TypeRow, work: &mut [u32]) -> u32
+    requires { MaySearch links.now.words.now l links.now.targets.now t.0 work.old }
+    ensures number_is { NumberIs (chain_graph links.now.words.now) t.0 result }
+    ensures cleared { Cleared (trail_at (type_count links.now.words.now)) work.old work.new }
 {
-    let n = search(words, l, targets, t, work);
+    let n = search(links, l, t, work);
     let back = work[t.0 as usize];
     clear_search(l.types, work);
     if back == 0 {
@@ -43,44 +44,35 @@ fn lowest_back(t: TypeRow, work: &[u32], out: &[u32]) -> TypeRow
     if !reaches_back(t, t, work, out) {
         return TypeRow::NONE;
     }
-    let mut u = 0;
-    while u < t.0 {
+    for u in 0..t.0 {
         if reaches_back(t, TypeRow(u), work, out) {
             return TypeRow(u);
         }
-        u += 1;
     }
     t
 }
 
 // The lowest row among those that t reaches and that reach t.
-pub fn leader_of(
-    words: &[u32],
-    l: Layout,
-    targets: &[u16],
-    t: TypeRow,
-    work: &mut [u32],
-    out: &[u32],
-) -> TypeRow
-    requires may_search { MaySearch words.now l targets.now t.0 work.old }
-    requires right { Right (chain_graph words.now) Number out.now }
-    ensures leader_is { LeaderIs (chain_graph words.now) t.0 result.0 }
-    ensures cleared { Cleared (trail_at (type_count words.now)) work.old work.new }
+pub fn leader_of(links: &Links, l: Layout, t: TypeRow, work: &mut [u32], out: &[u32]) -> TypeRow
+    requires may_search { MaySearch links.now.words.now l links.now.targets.now t.0 work.old }
+    requires right { Right (chain_graph links.now.words.now) Number out.now }
+    ensures leader_is { LeaderIs (chain_graph links.now.words.now) t.0 result.0 }
+    ensures cleared { Cleared (trail_at (type_count links.now.words.now)) work.old work.new }
 {
-    search(words, l, targets, t, work);
+    search(links, l, t, work);
     let found = lowest_back(t, work, out);
     clear_search(l.types, work);
     found
 }
 
 // The shortest distance from s to another type u that it reaches.
-fn level(words: &[u32], l: Layout, targets: &[u16], s: TypeRow, u: TypeRow, work: &mut [u32]) -> u32
-    requires may_search { MaySearch words.now l targets.now s.0 work.old }
+fn level(links: &Links, l: Layout, s: TypeRow, u: TypeRow, work: &mut [u32]) -> u32
+    requires may_search { MaySearch links.now.words.now l links.now.targets.now s.0 work.old }
     requires u_lt_types { u.0 < l.types }
-    ensures level_is { LevelIs (chain_graph words.now) s.0 u.0 result }
-    ensures cleared { Cleared (trail_at (type_count words.now)) work.old work.new }
+    ensures level_is { LevelIs (chain_graph links.now.words.now) s.0 u.0 result }
+    ensures cleared { Cleared (trail_at (type_count links.now.words.now)) work.old work.new }
 {
-    search(words, l, targets, s, work);
+    search(links, l, s, work);
     let found = work[u.0 as usize];
     clear_search(l.types, work);
     found
@@ -88,17 +80,16 @@ fn level(words: &[u32], l: Layout, targets: &[u16], s: TypeRow, u: TypeRow, work
 
 // The shortest distance from t to its leader.
 pub fn distance_of(
-    words: &[u32],
+    links: &Links,
     l: Layout,
-    targets: &[u16],
     t: TypeRow,
     work: &mut [u32],
     out: &[u32],
 ) -> EvidenceWord
-    requires may_search { MaySearch words.now l targets.now t.0 work.old }
-    requires right { Right (chain_graph words.now) Leader out.now }
-    ensures word_is { WordIs (chain_graph words.now) OutDistance out.now t.0 result.0 }
-    ensures cleared { Cleared (trail_at (type_count words.now)) work.old work.new }
+    requires may_search { MaySearch links.now.words.now l links.now.targets.now t.0 work.old }
+    requires right { Right (chain_graph links.now.words.now) Leader out.now }
+    ensures word_is { WordIs (chain_graph links.now.words.now) OutDistance out.now t.0 result.0 }
+    ensures cleared { Cleared (trail_at (type_count links.now.words.now)) work.old work.new }
 {
     if !marked(out, t) {
         return EvidenceWord::NONE;
@@ -106,22 +97,15 @@ pub fn distance_of(
     if leads(out, t) {
         return EvidenceWord(0);
     }
-    EvidenceWord(level(words, l, targets, t, leader(out, t), work))
+    EvidenceWord(level(links, l, t, leader(out, t), work))
 }
 
 // The shortest distance to t from its leader.
-pub fn depth_of(
-    words: &[u32],
-    l: Layout,
-    targets: &[u16],
-    t: TypeRow,
-    work: &mut [u32],
-    out: &[u32],
-) -> EvidenceWord
-    requires may_search { MaySearch words.now l targets.now t.0 work.old }
-    requires right { Right (chain_graph words.now) Leader out.now }
-    ensures word_is { WordIs (chain_graph words.now) InDepth out.now t.0 result.0 }
-    ensures cleared { Cleared (trail_at (type_count words.now)) work.old work.new }
+pub fn depth_of(links: &Links, l: Layout, t: TypeRow, work: &mut [u32], out: &[u32]) -> EvidenceWord
+    requires may_search { MaySearch links.now.words.now l links.now.targets.now t.0 work.old }
+    requires right { Right (chain_graph links.now.words.now) Leader out.now }
+    ensures word_is { WordIs (chain_graph links.now.words.now) InDepth out.now t.0 result.0 }
+    ensures cleared { Cleared (trail_at (type_count links.now.words.now)) work.old work.new }
 {
     if !marked(out, t) {
         return EvidenceWord::NONE;
@@ -129,5 +113,5 @@ pub fn depth_of(
     if leads(out, t) {
         return EvidenceWord(0);
     }
-    EvidenceWord(level(words, l, targets, leader(out, t), t, work))
+    EvidenceWord(level(links, l, leader(out, t), t, work))
 }

@@ -3,16 +3,17 @@
 // from the next free row, and answers how many rows it has, fitting or not. `Emitted` of specs/Records.antt says what that leaves.
 #![tactic(auto)]
 
-ghost use Rattle.std.specs.Prelude.{◌≡◌, ◌∷◌, [], ◌*◌, ◌≤◌, ◌<◌, min, eqb};
-ghost use Rattle.table.specs.Layout.{none};
-ghost use Rattle.records.specs.Records.{Emitted, row_words, countable};
+ghost use Rattle.std.specs.Prelude.{◌≡◌, ℕ, List, ◌∷◌, [], ◌*◌, ◌≤◌, ◌<◌, min};
+ghost use Rattle.records.specs.Records.{Emitted, each, row_words, countable};
+ghost use Rattle.records.specs.Each.{most_rows, most_of_row, Lists, AtMost};
+ghost use Rattle.records.specs.declared.Record.{Record as Row};
 ghost use Rattle.records.specs.Rows.{row, query_root_operation_type, root_operation_object_type, undefined_definition, duplicate_root_operation_type, reserved_name, recursive_interface_definition, empty_field_set, transitive_implemented_interfaces, missing_interface_field, invalid_implementation_field_type, missing_interface_field_argument, invalid_implementation_field_argument_type, extra_required_implementation_field_argument, union_member_object_type, empty_member_set, empty_value_set, recursive_input_object_definition, input_type, output_type, unique_input_value, empty_input_value_set};
 
 use table::layout::Layout;
 use table::numbers::{NameNo, TypeRow};
 
 // A record's code, document 01's number.
-#[derive(Clone, Copy)]
+#[derive(Clone, Copy, PartialEq, Eq)]
 pub struct Code(pub u32);
 
 impl Code {
@@ -60,7 +61,7 @@ impl Code {
 }
 
 // What a row in a record is a row of.
-#[derive(Clone, Copy)]
+#[derive(Clone, Copy, PartialEq, Eq)]
 pub struct Place(pub u32);
 
 impl Place {
@@ -82,21 +83,15 @@ impl Place {
 }
 
 // A word of a record behind the type: a row, a name, a place or a number, or NONE where there is nothing to say.
-#[derive(Clone, Copy)]
+#[derive(Clone, Copy, PartialEq, Eq)]
 pub struct Word(pub u32);
 
 impl Word {
     pub const NONE: Word = Word(Layout::NONE);
-
-    pub fn is_none(self) -> bool
-        ensures { result ≡ eqb self.0 none }
-    {
-        self.0 == Word::NONE.0
-    }
 }
 
 // A record's words, in their order.
-#[derive(Clone, Copy)]
+#[derive(Clone, Copy, PartialEq, Eq)]
 pub struct Record {
     pub code: Code,
     pub ty: TypeRow,
@@ -385,11 +380,7 @@ pub fn used(n: usize, len: usize) -> usize
     requires { n < countable }
     ensures { result ≡ min (row_words * n) len }
 {
-    if Record::WORDS * n <= len {
-        Record::WORDS * n
-    } else {
-        len
-    }
+    len.min(Record::WORDS * n)
 }
 
 // One row at the front of the output, if it fits. It counts either way.
@@ -405,4 +396,20 @@ pub fn put(out: &mut [u32], r: Record) -> usize
         out[4] = r.c.0;
     }
     1
+}
+
+// What a rule lists for each of n rows, one after the other: it is lent the tail of the output from the next free row.
+pub fn put_each<F: Fn(usize, &mut [u32]) -> usize>(n: usize, rule: F, out: &mut [u32]) -> usize
+    requires few { n ≤ most_rows }
+    requires callable { (i : ℕ) (o : _) → i < n → F.pre rule i o }
+    requires bounded { AtMost (F.post rule) n most_of_row }
+    ensures emitted { (list : ℕ → List Row) → Lists (F.post rule) n list → Emitted (each list n) out.old out.new result }
+    ensures upper_bound { (most : ℕ) → AtMost (F.post rule) n most → result ≤ n * most }
+{
+    let mut rows = 0;
+    for i in 0..n {
+        let at = used(rows, out.len());
+        rows += rule(i, &mut out[at..]);
+    }
+    rows
 }

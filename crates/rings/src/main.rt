@@ -8,33 +8,24 @@ ghost use Rattle.chains.specs.Work.{work_words};
 
 use chains::cycle::{clear, first_cycle};
 use chains::work::Work;
-use links::link;
+use links::{Links, link};
+use shapes::sound::sound_layout;
 use shapes::{
     LADDER_FIELDS, LADDER_WORDS, RING_FIELDS, RING_WORDS, Shape, TEXT, TYPES, write_table,
     write_text,
 };
 use std::io;
-use table::layout::{Layout, layout_of, wide};
+use table::layout::Layout;
 use table::numbers::TypeRow;
-use wellformed::check::{Verdict, check_table};
 
-// How many rows of out, from the first, follow each other round the ring from row t on.
-fn in_order(out: &[u32], t: u32) -> usize {
-    let mut n = 0;
-    while n < out.len() {
-        if wide(out[n]) != (wide(t) + n) % TYPES {
-            return n;
-        }
-        n += 1;
-    }
-    n
+// How many rows, from the first, follow each other round the ring from row t on.
+fn in_order(rows: &[u32], t: u32) -> usize {
+    rows.iter()
+        .enumerate()
+        .take_while(|(n, row)| **row as usize == (t as usize + n) % TYPES)
+        .count()
 }
 
-fn print(rt: &impl Print, n: usize) -> io::Result<()> {
-    print!(rt; " {n}")
-}
-
-// The first cycle of type t, with work words that are cleared and what the fields lead to.
 fn find(words: &[u32], l: Layout, t: TypeRow, work: &mut [u32], out: &mut [u32]) -> usize
     requires sound_rows { SoundRows words.now l }
     requires t_lt_types { t.0 < l.types }
@@ -43,35 +34,38 @@ fn find(words: &[u32], l: Layout, t: TypeRow, work: &mut [u32], out: &mut [u32])
     let mut targets = [0; 8192];
     link(words, l, &mut targets);
     clear(work, Work { types: l.types }.size());
-    first_cycle(words, &targets, t, work, out)
+    let links = Links {
+        words,
+        targets: &targets,
+    };
+    first_cycle(&links, t, work, out)
 }
 
 // Prints the count of type t, and how many rows of its first cycle are those of the ring from t on.
 fn search(
     rt: &impl Print,
-    label: &[u8],
+    label: &str,
     text: &[u8],
     words: &[u32],
     t: u32,
     work: &mut [u32],
     out: &mut [u32],
 ) -> io::Result<()> {
-    rt.write_all(label)?;
-    let Verdict::WellFormed = check_table(text, words) else {
+    print!(rt; "{label}")?;
+    let Ok(l) = sound_layout(text, words) else {
         return println!(rt; " refused");
     };
-    let l = layout_of(words);
     let room = Work { types: l.types }.size();
-    if wide(t) >= l.types {
+    if t as usize >= l.types {
         return println!(rt; " no type");
     }
     if work.len() < room {
         return println!(rt; " no room");
     }
     let n = find(words, l, TypeRow(t), work, out);
-    print(rt, n)?;
+    print!(rt; " {n}")?;
     if n <= out.len() {
-        print(rt, in_order(&out[..n], t))?;
+        print!(rt; " {}", in_order(&out[..n], t))?;
     }
     println!(rt)
 }
@@ -79,15 +73,15 @@ fn search(
 fn ring(rt: &impl Print, text: &[u8], work: &mut [u32], out: &mut [u32]) -> io::Result<()> {
     let mut words = [0; RING_WORDS];
     write_table(&mut words, Shape::Ring, RING_FIELDS);
-    search(rt, b"ring", text, &words, 0, work, out)?;
-    search(rt, b"ring", text, &words, 1000, work, out)
+    search(rt, "ring", text, &words, 0, work, out)?;
+    search(rt, "ring", text, &words, 1000, work, out)
 }
 
 fn ladder(rt: &impl Print, text: &[u8], work: &mut [u32], out: &mut [u32]) -> io::Result<()> {
     let mut words = [0; LADDER_WORDS];
     write_table(&mut words, Shape::Ladder, LADDER_FIELDS);
-    search(rt, b"ladder", text, &words, 0, work, out)?;
-    search(rt, b"ladder", text, &words, 1022, work, out)
+    search(rt, "ladder", text, &words, 0, work, out)?;
+    search(rt, "ladder", text, &words, 1022, work, out)
 }
 
 fn main(rt: HostRuntime) -> io::Result<()> {

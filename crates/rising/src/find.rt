@@ -10,19 +10,7 @@ pub fn has(sorted: &[u16], name: NameNo) -> bool
     requires { Rises sorted.now }
     ensures { result ≡ contains sorted.now name.0 }
 {
-    let mut from = 0;
-    let mut to = sorted.len();
-    while from < to {
-        let middle = from + (to - from) / 2;
-        let there = sorted[middle] as u32;
-        if there == name.0 {
-            return true;
-        }
-        if there < name.0 {
-            from = middle + 1;
-        } else {
-            to = middle;
-        }
-    }
-    false
+    sorted
+        .binary_search_by(|there| (*there as u32).cmp(&name.0))
+        .is_ok()
 }

@@ -13,8 +13,6 @@ use table::numbers::{NameNo, TypeRow};
 // The members stand behind the most edges.
 const MEMBERS: usize = 4096;
 
-const END: usize = 8192;
-
 // Writes both.
 pub fn sort_lists(words: &[u32], l: Layout, lists: &mut [u16])
     requires sound_rows { SoundRows words.now l }
@@ -22,8 +20,9 @@ pub fn sort_lists(words: &[u32], l: Layout, lists: &mut [u16])
     requires lists_len { length lists.old ≡ list_cells }
     ensures { Sorted words.now l lists.new }
 {
-    sort_edges(words, l, &mut lists[0..MEMBERS]);
-    sort_members(words, l, &mut lists[MEMBERS..END]);
+    let (edges, members) = lists.split_at_mut(MEMBERS);
+    sort_edges(words, l, edges);
+    sort_members(words, l, members);
 }
 
 // The name is that of an edge of type t.
@@ -32,7 +31,7 @@ pub fn is_edge_of(words: &[u32], l: Layout, lists: &[u16], name: NameNo, t: Type
     requires t_lt_types { t.0 < l.types }
     ensures { result ≡ contains (edges_of words.now t.0) name.0 }
 {
-    has_edge_named(words, l, &lists[0..MEMBERS], t, name)
+    has_edge_named(words, l, &lists[..MEMBERS], t, name)
 }
 
 // The name is that of a member of type t.
@@ -41,5 +40,5 @@ pub fn is_member_of(words: &[u32], l: Layout, lists: &[u16], name: NameNo, t: Ty
     requires t_lt_types { t.0 < l.types }
     ensures { result ≡ contains (members_of words.now t.0) name.0 }
 {
-    has_member_named(words, l, &lists[MEMBERS..END], t, name)
+    has_member_named(words, l, &lists[MEMBERS..], t, name)
 }

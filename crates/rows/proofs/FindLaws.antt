@@ -8,7 +8,10 @@ use native.Mathlib.Omega.{arith}
 use lib.Dec.{eqb}
 use borrow.Author.Tests.{eqb-true, eqb-false}
 use Rattle.names.proofs.BoolLaws.{decide}
+use Rattle.std.specs.Prelude.{Option, Some, None, MatchOption, unwrap_or}
 use Rattle.rows.specs.Search.{find}
+use Rattle.rows.specs.Found.{found_row}
+use Rattle.rows.proofs.FoundRows.{found_row_lem, found_no_row}
 
 module _ (p : ℕ → Bool) where
   here : (i left : ℕ) → p i ≡ true → find p i (suc left) ≡ i
@@ -99,3 +102,35 @@ module _ (p : ℕ → Bool) where
       let s : i + suc left ≡ suc i + left = omega arith in
       next i (suc left) d ∙ find_past left (suc i) (omega arith) (rw s at e) ∙ ap suc (sym s))
       (decide (p i))
+
+  -- the number of which p holds, and of none before it, is the one that is found
+  pub find_is : (left from i : ℕ) → from ≤ i → i < from + left → p i ≡ true → ((k : ℕ) → from ≤ k → k < i → p k ≡ false) → find p from left ≡ i
+  find_is zero from i a b e none = absurd (omega arith)
+  find_is (suc left) from i a b e none =
+      ⊎_elim (λ q. let s : from ≡ i = eqb-true from i q in here from left (rw s e) ∙ s)
+      (λ q. let n = eqb-false from i q in
+      next from left (none from (omega arith) (omega arith)) ∙ find_is left (suc from) i (omega arith) (omega arith) e (λ k x y. none k (omega arith) y))
+      (decide (eqb from i))
+
+  -- and with none, the number behind them
+  pub find_none : (left from : ℕ) → ((k : ℕ) → from ≤ k → k < from + left → p k ≡ false) → find p from left ≡ from + left
+  find_none zero from none = none_left from ∙ let z : from ≡ from + 0 = omega arith in z
+  find_none (suc left) from none =
+      let s : suc from + left ≡ from + suc left = omega arith in
+      next from left (none from (omega arith) (omega arith)) ∙ find_none left (suc from) (λ k x y. none k (omega arith) (omega arith)) ∙ s
+
+  -- what a walk over a range that stops at the first such number answers
+  pub found_first : (n : ℕ) (r : Option ℕ)
+      → MatchOption r ((k : ℕ) → 0 ≤ k → k < n → p k ≡ false) (λ i. (0 ≤ i) × (i < n) × (p i ≡ true) × ((k : ℕ) → 0 ≤ k → k < i → p k ≡ false))
+      → r ≡ found_row (find p 0 n) n
+  found_first n None none = let e : find p 0 n ≡ 0 + n = find_none n 0 (λ k x y. none k x (omega arith)) in sym (found_no_row (find p 0 n) n (omega arith))
+  found_first n (Some i) f =
+      let e : find p 0 n ≡ i = find_is n 0 i f.0 (omega arith) f.2 f.3 in
+      rw e (sym (found_row_lem i n f.1))
+
+  -- and what it answers where the number behind them stands for none
+  pub found_or_end : (n : ℕ) (r : Option ℕ)
+      → MatchOption r ((k : ℕ) → 0 ≤ k → k < n → p k ≡ false) (λ i. (0 ≤ i) × (i < n) × (p i ≡ true) × ((k : ℕ) → 0 ≤ k → k < i → p k ≡ false))
+      → unwrap_or r n ≡ find p 0 n
+  found_or_end n None none = let e : find p 0 n ≡ 0 + n = find_none n 0 (λ k x y. none k x (omega arith)) in let z : n ≡ find p 0 n = omega arith in z
+  found_or_end n (Some i) f = sym (find_is n 0 i f.0 (omega arith) f.2 f.3)

@@ -3,21 +3,20 @@ use mathlib.Core.Path.{◌≡◌, refl, sym, ap, ◌∙◌}
 use mathlib.Core.Bool.{Bool, true, false}
 use mathlib.Core.Logic.{⊎_elim}
 use mathlib.Core.List.{List}
-use Prim.Native.Nat.{ℕ, zero, suc, ◌+◌, ◌-◌, ◌≤◌, ◌<◌}
+use Prim.Native.Nat.{ℕ, zero, suc, ◌+◌, ◌≤◌, ◌<◌}
 use native.Mathlib.Omega.{arith}
 use lib.Dec.{ltb, eqb}
 use lib.ListN.{length, get_or, set, replicate, length-set, length-replicate, get_or-replicate, get_or-eq_default}
 use lib.Seq.{get_or-set_same, get_or-set_other}
 use borrow.Author.Tests.{lt-ltb, le-ltb, ltb-true, ltb-false, eq-eqb, ne_eqb, eqb-true, eqb-false}
-use Rattle.names.proofs.BoolLaws.{decide}
-use Rattle.rows.specs.declared.types.FoundType.TheVariants.{At, Nothing}
+use Rattle.names.proofs.BoolLaws.{decide, below_or_from}
+use Rattle.std.specs.Prelude.{None}
 use Rattle.table.specs.declared.layout.Layout.{Layout}
-use Rattle.table.specs.declared.numbers.TypeRow.{TypeRow}
 use Rattle.table.specs.Layout.{most_names, name_count, type_count, type_name}
 use Rattle.rows.specs.Readable.{SoundRows}
 use Rattle.rows.specs.Search.{find}
 use Rattle.rows.specs.Types.{type_named, found_at}
-use Rattle.rows.specs.Index.{cell_of, Tells, noted, Indexed}
+use Rattle.rows.specs.Index.{cell_of, row_told, Tells, noted, Indexed}
 use Rattle.rows.proofs.FindLaws.{find_kept, find_last, find_past}
 use Rattle.rows.proofs.FoundTypes.{found_at_lem, found_nothing}
 
@@ -46,20 +45,10 @@ unfolding cell_of
 cell_nothing r n h = rw (le-ltb r n h)
 
 -- and back
-pub found_cell_lem : (r n c : ℕ) → suc c ≡ cell_of r n → found_at r n ≡ At (record { 0 = c })
-found_cell_lem r n c e =
-    ⊎_elim
-    (λ b. let h = ltb-true r n b in
-    let q : suc c ≡ suc r = e ∙ cell_found r n h in
-    let s : r ≡ c = omega arith in
-    found_at_lem r n h ∙ ap (λ (x : ℕ). At (record { 0 = x })) s)
-    (λ b. let q : suc c ≡ 0 = e ∙ cell_nothing r n (ltb-false r n b) in absurd (omega arith))
-    (decide (ltb r n))
-
-pub nothing_cell : (r n : ℕ) → 0 ≡ cell_of r n → found_at r n ≡ Nothing
-nothing_cell r n e =
-    ⊎_elim (λ b. let q : 0 ≡ suc r = e ∙ cell_found r n (ltb-true r n b) in absurd (omega arith))
-    (λ b. found_nothing r n (ltb-false r n b))
+pub row_told_cell : (r n : ℕ) → row_told (cell_of r n) ≡ found_at r n
+row_told_cell r n =
+    ⊎_elim (λ b. let h = ltb-true r n b in rw (cell_found r n h) (sym (found_at_lem r n h)))
+    (λ b. let h = ltb-false r n b in rw (cell_nothing r n h) (sym (found_nothing r n h)))
     (decide (ltb r n))
 
 module _ (name : ℕ → ℕ) where
@@ -161,35 +150,17 @@ module _ {w : List ℕ} {l : Layout} {cells : List ℕ} (x : Indexed w l cells) 
       let e : cell_of (find (λ i. eqb (type_name w i) name) 0 l.types) l.types ≡ cell_of (find (λ i. eqb (type_name w i) name) 0 (type_count w)) l.types = ap (λ (n : ℕ). cell_of (find (λ i. eqb (type_name w i) name) 0 n) l.types) t in
       ap (λ (n : ℕ). get_or cells n 0) same ∙ x.types name ∙ e
 
-  pub nothing_told : get_or cells at 0 ≡ 0 → Nothing ≡ found_at (type_named w name) l.types
-  nothing_told e = sym (nothing_cell _ _ (sym e ∙ told))
+  -- the cell tells the type, and where there is no cell there is no type
+  pub type_told : row_told (get_or cells at 0) ≡ found_at (type_named w name) l.types
+  type_told = ap row_told told ∙ row_told_cell _ _
 
-  pub nothing_past : length cells ≤ at → Nothing ≡ found_at (type_named w name) l.types
-  nothing_past h = nothing_told (get_or-eq_default cells 0 h)
+  pub nothing_past : length cells ≤ at → None ≡ found_at (type_named w name) l.types
+  nothing_past h = sym (ap row_told (get_or-eq_default cells 0 h)) ∙ type_told
 
-  pub type_told : (t : TypeRow) → (get_or cells at 0 ≡ 0 → ⊥) → t.0 ≡ get_or cells at 0 - 1 → At t ≡ found_at (type_named w name) l.types
-  type_told t d e = let s : suc t.0 ≡ get_or cells at 0 = omega (arith, d) in sym (found_cell_lem _ _ t.0 (s ∙ told))
-
--- while the types are noted
-pub record Noting (w : List ℕ) (n : ℕ) (cells : List ℕ) : Type 0 where
-  pub size : length cells ≡ most_names
-  pub tells : Tells (type_name w) n cells
-
-pub noting_none : (w cells : List ℕ) → cells ≡ replicate most_names 0 → Noting w 0 cells
-noting_none w cells e =
-    record {
-      size = ap length e ∙ length-replicate {A = ℕ} most_names 0;
-      tells = tells_none (type_name w) cells (λ k.
-          ⊎_elim (λ b. ap (λ (c : List ℕ). get_or c k 0) e ∙ get_or-replicate most_names k 0 0 (ltb-true _ _ b))
-          (λ b. let h = ltb-false k most_names b in get_or-eq_default cells 0 (omega (arith, ap length e, length-replicate {A = ℕ} most_names 0)))
-          (decide (ltb k most_names)));
-    }
-
-pub noting_more : {w : List ℕ} {l : Layout} → SoundRows w l → (n : ℕ) → n < l.types → (cells : List ℕ) (name : ℕ) → name ≡ type_name w n → Noting w n cells → Noting w (n + 1) (noted cells name n)
-noting_more {w} {l} s n h cells name e x =
-    let t : l.types ≡ type_count w = ap (λ (y : Layout). y.types) s.laid.same in
-    let m = name_most s n h in
-    record {
-      size = length_noted cells name n ∙ x.size;
-      tells = rw e (tells_more (type_name w) cells n x.tells (omega (arith, x.size)));
-    }
+-- in cells of 0, no row is told
+pub tells_nothing : (name : ℕ → ℕ) (cells : List ℕ) → cells ≡ replicate most_names 0 → Tells name 0 cells
+tells_nothing name cells e =
+    tells_none name cells (λ k.
+    ⊎_elim (λ b. ap (λ (c : List ℕ). get_or c k 0) e ∙ get_or-replicate most_names k 0 0 b)
+    (λ h. get_or-eq_default cells 0 (omega (arith, ap length e, length-replicate {A = ℕ} most_names 0)))
+    (below_or_from k most_names))

@@ -1,6 +1,7 @@
 -- A row by its name in one look: a cell for each name number. The plain search (`find`) says what a cell holds.
-use Rattle.std.specs.Prelude.{◌≡◌, refl, cond, List, ◌∷◌, [], ℕ, suc, get_or, set, ltb, eqb}
+use Rattle.std.specs.Prelude.{◌≡◌, refl, cond, List, ◌∷◌, [], Option, Some, None, ℕ, zero, suc, get_or, set, ltb, eqb}
 use Rattle.table.specs.declared.layout.Layout.{Layout}
+use Rattle.table.specs.declared.numbers.TypeRow.{TypeRow}
 use Rattle.table.specs.Layout.{type_name}
 use Rattle.rows.specs.Search.{find}
 use Rattle.rows.specs.Readable.{SoundRows, Readable}
@@ -8,6 +9,11 @@ use Rattle.rows.specs.Readable.{SoundRows, Readable}
 -- the cell of a search that ends at row r of n: the row's number plus 1, or 0 where no row was found
 unfoldable pub cell_of : ℕ → ℕ → ℕ
 cell_of r n = cond (ltb r n) (suc r) 0
+
+-- and back: the row that a cell tells
+abbrev pub row_told : ℕ → Option TypeRow
+row_told zero = None
+row_told (suc row) = Some (record { 0 = row })
 
 -- the cells tell for every name number the first of n rows that has it; `name i` is the name of row i. A cell that there is not reads as 0.
 abbrev pub Tells : (ℕ → ℕ) → ℕ → List ℕ → Type 0

@@ -1,11 +1,10 @@
 -- Types by their names, and what a name's bytes say.
-use Rattle.std.specs.Prelude.{Bool, ◌&&◌, cond, List, ℕ, ltb, eqb}
+use Rattle.std.specs.Prelude.{Bool, ◌&&◌, cond, List, ℕ, ltb, eqb, Option, Some, None}
 use Rattle.table.specs.Kinds.{interface}
 use Rattle.table.specs.Layout.{type_name, type_kind, type_count, name_bytes}
 use Rattle.names.specs.Names.{starts_reserved, builtin_scalar}
 use Rattle.rows.specs.Search.{find}
-use Rattle.rows.specs.declared.types.FoundType.{FoundType}
-use Rattle.rows.specs.declared.types.FoundType.TheVariants.{At, Nothing}
+use Rattle.table.specs.declared.numbers.TypeRow.{TypeRow}
 
 -- the row of the type with the name, or the count of types
 unfoldable pub type_named : List ℕ → ℕ → ℕ
@@ -32,5 +31,5 @@ unfoldable pub builtin : List ℕ → List ℕ → ℕ → Bool
 builtin text w n = builtin_scalar (name_bytes text w n)
 
 -- what a search that ends at row r of n types answers
-unfoldable pub found_at : ℕ → ℕ → FoundType
-found_at r n = cond (ltb r n) (At (record { 0 = r })) Nothing
+unfoldable pub found_at : ℕ → ℕ → Option TypeRow
+found_at r n = cond (ltb r n) (Some (record { 0 = r })) None

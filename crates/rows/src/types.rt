@@ -8,12 +8,6 @@ use table::kinds::Kind;
 use table::layout::{Layout, word_at};
 use table::numbers::{NameNo, TypeRow};
 
-#[derive(Clone, Copy)]
-pub enum FoundType {
-    At(TypeRow),
-    Nothing,
-}
-
 pub fn type_name(words: &[u32], l: Layout, t: TypeRow) -> NameNo
     requires laid { Laid words.now l }
     requires t_lt_types { t.0 < l.types }
@@ -36,7 +30,7 @@ pub fn kind_of(words: &[u32], l: Layout, t: TypeRow) -> Kind
     requires t_lt_types { t.0 < l.types }
     ensures { kind_number result ≡ type_kind words.now t.0 }
 {
-    Kind::of(type_kind(words, l, t))
+    Kind::try_from(type_kind(words, l, t)).unwrap()
 }
 
 pub fn type_flag(words: &[u32], l: Layout, t: TypeRow) -> u32

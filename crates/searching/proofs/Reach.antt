@@ -1,6 +1,6 @@
 -- Laws of the search: it begins with no marks, marks one type more, joins its steps, and at its end all types reached are marked.
 --
-use mathlib.Core.Path.{◌≡◌, refl, ap, sym, subst, ◌∙◌}
+use mathlib.Core.Path.{◌≡◌, refl, ap, sym, ◌∙◌}
 use mathlib.Core.Logic.{inl, inr, ⊎_elim, ◌≢◌}
 use mathlib.Core.List.{List, ◌++◌}
 use Prim.Native.Nat.{ℕ, suc, zero, ◌+◌, ◌≤◌, ◌<◌}
@@ -11,10 +11,9 @@ use lib.Seq.{get_or-set_same, get_or-set_other, drop-set-lt, drop_at}
 use Rattle.links.specs.Chains.{Graph}
 use Rattle.evidence.specs.Canonical.{Count, Count.empty, Count.with, Count.without}
 use Rattle.chains.specs.Work.{trail_at}
-use Rattle.searching.specs.Search.{MarkedIn, MarksListed, Grown, Entered, Visited, Cleared}
+use Rattle.searching.specs.Search.{MarkedIn, MarksListed, Grown, Entered, Cleared}
 use Rattle.evidence.proofs.TestLaws.{last_or_below}
 use Rattle.evidence.proofs.Counts.{count_below}
-use Rattle.names.proofs.BoolLaws.{below_or_from}
 use Rattle.chains.proofs.Marks.{same_or_not}
 
 -- counts of properties that agree
@@ -61,20 +60,6 @@ grown_refl h = record { listed = h; more = omega arith; same = λ i l. refl; kep
 -- a mark stays
 pub grown_marks : {types n m : ℕ} {W X : List ℕ} → Grown types W n X m → (u : ℕ) → u < types → MarkedIn W u → MarkedIn X u
 grown_marks a u l m e = m (sym (a.kept u l m) ∙ e)
-
--- one growth after another
-pub grown_join : {types n m k : ℕ} {W X Y : List ℕ} → Grown types W n X m → Grown types X m Y k → Grown types W n Y k
-grown_join a b =
-    let x = a.more in
-    let y = b.more in
-    record {
-      listed = b.listed;
-      more = omega arith;
-      same = λ i l. b.same i (omega arith) ∙ a.same i l;
-      kept = λ u l m. b.kept u l (grown_marks a u l m) ∙ a.kept u l m;
-      size = b.size ∙ a.size;
-      rest = b.rest ∙ a.rest;
-    }
 
 -- type u is marked and listed
 unfoldable pub put : (types n u k : ℕ) → List ℕ → List ℕ
@@ -173,45 +158,6 @@ module _ (g : Graph) where
   pub entered_at : (f k u n : ℕ) (W : List ℕ) → u ≡ g.next f → MarksListed g.types W n → u < g.types → get_or W u 0 ≡ 0 → 0 < k
       → Entered g f k W n (set (set W u k) (g.types + n) u) (n + 1)
   entered_at f k u n W e h low fresh some = rw (add-one, e) (entered_new f k n W h (rw e at low) (rw e at fresh) some)
-
-  -- no field was walked
-  pub visited_none : (s : ℕ) {k n : ℕ} {W : List ℕ} → MarksListed g.types W n → Visited g s (g.start s) k W n W n
-  visited_none s h =
-      record {
-        grown = grown_refl h;
-        led = λ f u l c. let b = c.low in absurd (omega arith);
-        only = λ u l m. inl m;
-        new = λ i a b. absurd (omega arith);
-      }
-
-  -- one field more
-  pub visited_more : {s f k n m p : ℕ} {W X Y : List ℕ} → g.start s ≤ f → f < g.stop s → Visited g s f k W n X m → Entered g f k X m Y p
-      → Visited g s (suc f) k W n Y p
-  visited_more {s} {f} {k} {n} {m} {p} {W} {X} {Y} a b v e =
-      record {
-        grown = grown_join v.grown e.grown;
-        led = λ h u l c.
-            ⊎_elim
-            (λ (q : h ≡ f). let r : g.next f ≡ u = rw q at c.leads in subst (MarkedIn Y) r (e.led (rw r c.type)))
-            (λ l'. grown_marks e.grown u c.type (v.led h u l' c))
-            (last_or_below l);
-        only = λ u l y.
-            ⊎_elim
-            (λ x. ⊎_elim (λ w. inl w) (λ (h, c, q). inr (h, c, e.grown.kept u l x ∙ q)) (v.only u l x))
-            (λ q. inr (f, record { low = a; high = b; leads = q.0; type = l }, q.1))
-            (e.only u l y);
-        new = λ i x y.
-            ⊎_elim
-            (λ (l : i < m).
-            rw (e.grown.same i l)
-            (e.grown.kept (get_or X (g.types + i) 0) (v.grown.listed.types_only i l) (v.grown.listed.marked i l) ∙ v.new i x l))
-            (λ l. e.new i l y)
-            (below_or_from i m);
-      }
-
-  -- where all the fields were walked
-  pub visited_all : {s f k n m : ℕ} {W X : List ℕ} → g.stop s ≤ f → Visited g s f k W n X m → Visited g s (g.stop s) k W n X m
-  visited_all b v = record { grown = v.grown; led = λ h u l c. v.led h u (omega arith) c; only = v.only; new = v.new }
 
 -- words that were set to 0 are cleared
 pub zeros_cleared : (n : ℕ) (W : List ℕ) → n ≤ length W → Cleared n W (replicate n 0 ++ drop n W)

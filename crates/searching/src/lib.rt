@@ -12,26 +12,17 @@ ghost use Rattle.searching.specs.Search.{Entering, Entered, Visited, MaySearch, 
 
 use chains::cycle::clear;
 use chains::work::Work;
-use links::{chains_end, chains_start, target};
-use rows::types::FoundType;
+use links::Links;
 use table::layout::Layout;
 use table::numbers::TypeRow;
 
 // Marks and lists the type that field f leads to, where that is one and is not marked yet. n types are listed before.
-fn enter(
-    words: &[u32],
-    l: Layout,
-    targets: &[u16],
-    f: usize,
-    level: u32,
-    n: usize,
-    work: &mut [u32],
-) -> usize
+fn enter(links: &Links, l: Layout, f: usize, level: u32, n: usize, work: &mut [u32]) -> usize
     requires f_lt_fields { f < l.fields }
-    requires entering { Entering words.now l targets.now level work.old n }
-    ensures { Entered (chain_graph words.now) f level work.old n work.new result }
+    requires entering { Entering links.now.words.now l links.now.targets.now level work.old n }
+    ensures { Entered (chain_graph links.now.words.now) f level work.old n work.new result }
 {
-    let FoundType::At(u) = target(words, targets, f) else {
+    let Some(u) = links.target(f) else {
         return n;
     };
     let row = u.0 as usize;
@@ -45,44 +36,31 @@ fn enter(
 }
 
 // The same for the chain fields of type s.
-fn visit(
-    words: &[u32],
-    l: Layout,
-    targets: &[u16],
-    s: TypeRow,
-    level: u32,
-    listed: usize,
-    work: &mut [u32],
-) -> usize
+fn visit(links: &Links, l: Layout, s: TypeRow, level: u32, listed: usize, work: &mut [u32]) -> usize
     requires s_lt_types { s.0 < l.types }
-    requires entering { Entering words.now l targets.now level work.old listed }
-    ensures { Visited (chain_graph words.now) s.0 (chains_end words.now s.0) level work.old listed work.new result }
+    requires entering { Entering links.now.words.now l links.now.targets.now level work.old listed }
+    ensures { Visited (chain_graph links.now.words.now) s.0 (chains_end links.now.words.now s.0) level work.old listed work.new result }
 {
-    let row = s.0; // what the loop does is said of this number
-    let end = chains_end(words, TypeRow(row));
     let mut n = listed;
-    let mut f = chains_start(words, TypeRow(row));
-    while f < end {
-        n = enter(words, l, targets, f, level, n, work);
-        f += 1;
+    for f in links.start(s)..links.end(s) {
+        n = enter(links, l, f, level, n, work);
     }
     n
 }
 
 // Marks and lists the types that chain fields reach from t, and returns how many those are.
-pub fn search(words: &[u32], l: Layout, targets: &[u16], t: TypeRow, work: &mut [u32]) -> usize
-    requires { MaySearch words.now l targets.now t.0 work.old }
-    ensures searched { Searched (chain_graph words.now) t.0 work.old work.new result }
+pub fn search(links: &Links, l: Layout, t: TypeRow, work: &mut [u32]) -> usize
+    requires { MaySearch links.now.words.now l links.now.targets.now t.0 work.old }
+    ensures searched { Searched (chain_graph links.now.words.now) t.0 work.old work.new result }
     ensures upper_bound { result ≤ l.types }
 {
     let list = Work { types: l.types }.counts_at();
-    let from = t.0; // what the loop does is said of this number
-    let mut n = visit(words, l, targets, TypeRow(from), 1, 0, work);
+    let mut n = visit(links, l, t, 1, 0, work);
     let mut head = 0;
     while head < n {
         let s = work[list + head];
         let level = work[s as usize];
-        n = visit(words, l, targets, TypeRow(s), level + 1, n, work);
+        n = visit(links, l, TypeRow(s), level + 1, n, work);
         head += 1;
     }
     n

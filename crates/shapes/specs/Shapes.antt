@@ -29,8 +29,12 @@ next_type Ladder f = f / 2 + 1 + f % 2
 abbrev pub text : List ℕ
 text = (each two_letters types ++ 121 ∷ []) ++ 122 ∷ []
 
+-- names of two letters each, so many
+abbrev pub letter_names : ℕ → List ℕ
+letter_names n = each (λ i. name_row (2 * i) 2) n
+
 abbrev pub names : List ℕ
-names = (each (λ i. name_row (2 * i) 2) types ++ name_row (2 * types) 1) ++ name_row (2 * types + 1) 1
+names = (letter_names types ++ name_row (2 * types) 1) ++ name_row (2 * types + 1) 1
 
 abbrev pub type_of : Shape → ℕ → List ℕ
 type_of shape i = type_row i input_object 0 0 (fields_up_to shape i) 0 0

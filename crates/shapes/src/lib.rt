@@ -4,10 +4,10 @@
 // The ladder: type i has two fields, to the types i + 1 and i + 2; the last but one has one, and the last has none.
 #![tactic(auto)]
 
-ghost use Rattle.std.specs.Prelude.{◌≡◌, ◌≤◌, ◌<◌};
+ghost use Rattle.std.specs.Prelude.{◌≡◌, ◌*◌, ◌≤◌, ◌<◌};
 ghost use Rattle.records.specs.Records.{each};
-ghost use Rattle.building.specs.Building.{Added};
-ghost use Rattle.shapes.specs.Shapes.{types, fields_up_to, next_type, text, names, type_of, field_of, table};
+ghost use Rattle.building.specs.Building.{Added, letters, two_letters};
+ghost use Rattle.shapes.specs.Shapes.{types, fields_up_to, next_type, text, letter_names, names, type_of, field_of, table};
 
 use building::{
     Counts, Ends, field_row, header, name_row, no_roots, one_letter, two_letters, type_row,
@@ -17,6 +17,7 @@ use table::kinds::Kind;
 use table::layout::Layout;
 use table::numbers::NameNo;
 
+pub mod sound;
 pub mod whole_case;
 
 pub const TYPES: usize = 1024;
@@ -42,75 +43,90 @@ pub enum Shape {
     Ladder,
 }
 
+impl Shape {
+    // The fields of the types up to type i.
+    fn fields_up_to(self, i: usize) -> usize
+        requires { i < types }
+        ensures value { result ≡ fields_up_to self i }
+        ensures upper_bound { result < 65536 }
+    {
+        match self {
+            Shape::Ring => i + 1,
+            Shape::Ladder => (2 * i + 2).min(LADDER_FIELDS),
+        }
+    }
+
+    // The type that field f leads to.
+    fn next_type(self, f: usize) -> usize
+        requires { f < 8192 }
+        ensures value { result ≡ next_type self f }
+        ensures upper_bound { result < 65536 }
+    {
+        match self {
+            Shape::Ring => (f + 1) % TYPES,
+            Shape::Ladder => f / 2 + 1 + f % 2,
+        }
+    }
+}
+
+// A text with two letters for each number below n.
+pub fn write_letters(bytes: &mut [u8], n: usize) -> usize
+    requires { n ≤ letters * letters }
+    ensures { Added 0 (each two_letters n) bytes.old bytes.new result }
+{
+    let mut at = 0;
+    for i in 0..n {
+        at = two_letters(bytes, at, i);
+    }
+    at
+}
+
+// The names that these letters spell.
+pub fn write_letter_names(words: &mut [u32], at: usize, n: usize) -> usize
+    requires { n ≤ letters * letters }
+    ensures { Added at (letter_names n) words.old words.new result }
+{
+    let mut next = at;
+    for i in 0..n {
+        next = name_row(words, next, (2 * i) as u32, 2);
+    }
+    next
+}
+
 // The names: two letters for each type, and one for each of two fields.
 pub fn write_text(bytes: &mut [u8]) -> usize
     ensures { Added 0 text bytes.old bytes.new result }
 {
-    let mut at = 0;
-    let mut i = 0;
-    while i < TYPES {
-        at = two_letters(bytes, at, i);
-        i += 1;
-    }
-    at = one_letter(bytes, at, b'y');
+    let at = write_letters(bytes, TYPES);
+    let at = one_letter(bytes, at, b'y');
     one_letter(bytes, at, b'z')
 }
 
 fn write_names(words: &mut [u32], at: usize) -> usize
     ensures { Added at names words.old words.new result }
 {
-    let mut next = at;
-    let mut i = 0;
-    while i < TYPES {
-        next = name_row(words, next, (2 * i) as u32, 2);
-        i += 1;
-    }
-    next = name_row(words, next, (2 * TYPES) as u32, 1);
-    name_row(words, next, (2 * TYPES + 1) as u32, 1)
-}
-
-// The fields of the types up to type i.
-fn fields_up_to(shape: Shape, i: usize) -> usize
-    requires { i < types }
-    ensures value { result ≡ fields_up_to shape i }
-    ensures upper_bound { result < 65536 }
-{
-    match shape {
-        Shape::Ring => i + 1,
-        Shape::Ladder => if 2 * i + 2 <= LADDER_FIELDS {
-            2 * i + 2
-        } else {
-            LADDER_FIELDS
-        },
-    }
-}
-
-// The type that field f leads to.
-fn next_type(shape: Shape, f: usize) -> usize
-    requires { f < 8192 }
-    ensures value { result ≡ next_type shape f }
-    ensures upper_bound { result < 65536 }
-{
-    match shape {
-        Shape::Ring => (f + 1) % TYPES,
-        Shape::Ladder => f / 2 + 1 + f % 2,
-    }
+    let at = write_letter_names(words, at, TYPES);
+    let at = name_row(words, at, (2 * TYPES) as u32, 1);
+    name_row(words, at, (2 * TYPES + 1) as u32, 1)
 }
 
 fn write_types(words: &mut [u32], at: usize, shape: Shape) -> usize
     ensures { Added at (each (type_of shape) types) words.old words.new result }
 {
     let mut next = at;
-    let mut i = 0;
-    while i < TYPES {
+    for i in 0..TYPES {
         let ends = Ends {
-            edges: 0,
-            fields: fields_up_to(shape, i) as u32,
-            members: 0,
-            values: 0,
+            fields: shape.fields_up_to(i) as u32,
+            ..Ends::ZERO
         };
-        next = type_row(words, next, NameNo(i as u32), Kind::INPUT_OBJECT, 0, ends);
-        i += 1;
+        next = type_row(
+            words,
+            next,
+            NameNo(i as u32),
+            u32::from(Kind::InputObject),
+            0,
+            ends,
+        );
     }
     next
 }
@@ -121,12 +137,10 @@ fn write_fields(words: &mut [u32], at: usize, shape: Shape, fields: usize) -> us
     ensures { Added at (each (field_of shape) fields) words.old words.new result }
 {
     let mut next = at;
-    let mut f = 0;
-    while f < fields {
+    for f in 0..fields {
         let name = NameNo((TYPES + f % 2) as u32);
-        let ty = NameNo(next_type(shape, f) as u32);
+        let ty = NameNo(shape.next_type(f) as u32);
         next = field_row(words, next, name, ty, Wrap::REQUIRED, 0, 0);
-        f += 1;
     }
     next
 }
@@ -139,11 +153,8 @@ pub fn write_table(words: &mut [u32], shape: Shape, fields: usize) -> usize
     let counts = Counts {
         names: NAMES as u32,
         types: TYPES as u32,
-        edges: 0,
         fields: fields as u32,
-        arguments: 0,
-        members: 0,
-        values: 0,
+        ..Counts::ZERO
     };
     let names_at = header(words, counts);
     let types_at = write_names(words, names_at);

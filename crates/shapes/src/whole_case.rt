@@ -38,19 +38,16 @@ fn write_types(words: &mut [u32], at: usize) -> usize
     ensures { Added at (in_row board_rows.types) words.old words.new result }
 {
     let node = Ends {
-        edges: 0,
         fields: 1,
-        members: 0,
-        values: 0,
+        ..Ends::ZERO
     };
     let board = Ends {
         edges: 1,
         fields: 2,
-        members: 0,
-        values: 0,
+        ..Ends::ZERO
     };
-    let at = type_row(words, at, NODE, Kind::INTERFACE, 0, node);
-    type_row(words, at, BOARD, Kind::OBJECT, 0, board)
+    let at = type_row(words, at, NODE, u32::from(Kind::Interface), 0, node);
+    type_row(words, at, BOARD, u32::from(Kind::Object), 0, board)
 }
 
 fn write_fields(words: &mut [u32], at: usize) -> usize
@@ -69,9 +66,7 @@ pub fn table() -> [u32; WORDS]
         types: 2,
         edges: 1,
         fields: 2,
-        arguments: 0,
-        members: 0,
-        values: 0,
+        ..Counts::ZERO
     };
     let at = header(&mut words, counts);
     let at = write_names(&mut words, at);

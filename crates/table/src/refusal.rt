@@ -1,29 +1,35 @@
-// Document 01, "Refusal numbers": each number by its name, which is the one that include/lhakvuni.h gives it.
-#[derive(Clone, Copy)]
-pub struct Refusal(pub u32);
+// Document 01, "Refusal numbers": those of a table, which every call makes first, by their names.
+ghost use Rattle.std.specs.Prelude.{◌≡◌};
+ghost use Rattle.table.specs.Answers.{malformed_number};
 
-// The table's refusals, which every call makes first.
-impl Refusal {
-    pub const TOO_FEW_WORDS: Refusal = Refusal(1);
-
-    pub const ABOVE_LIMIT: Refusal = Refusal(2);
-
-    pub const WRONG_LENGTH: Refusal = Refusal(3);
-
-    pub const BAD_NAMES: Refusal = Refusal(4);
-
-    pub const BAD_WORD: Refusal = Refusal(5);
-
-    pub const TWICE: Refusal = Refusal(6);
+#[derive(Clone, Copy, PartialEq, Eq)]
+pub enum Malformed {
+    // Fewer words than the header has.
+    TooFewWords,
+    // A count or the text above its limit.
+    AboveLimit,
+    // Another length than the formula's.
+    WrongLength,
+    // A name outside the text, that is no Spec Name, or that does not rise.
+    BadNames,
+    // A word out of its range, ends that do not cut their section, or rows on a kind that may not own them.
+    BadWord,
+    // A name that stands twice where it may not.
+    Twice,
 }
 
-// Those of single calls.
-impl Refusal {
-    pub const NO_INPUT_OBJECT: Refusal = Refusal(7);
+// The number that include/lhakvuni.h gives it.
+impl From<Malformed> for u32 {
+    ghost from_gives = { λ malformed n. n ≡ malformed_number malformed };
 
-    pub const WRONG_EVIDENCE: Refusal = Refusal(8);
-
-    pub const SHORT_WORK: Refusal = Refusal(9);
-
-    pub const SHORT_OUT: Refusal = Refusal(10);
+    fn from(malformed: Malformed) -> u32 {
+        match malformed {
+            Malformed::TooFewWords => 1,
+            Malformed::AboveLimit => 2,
+            Malformed::WrongLength => 3,
+            Malformed::BadNames => 4,
+            Malformed::BadWord => 5,
+            Malformed::Twice => 6,
+        }
+    }
 }

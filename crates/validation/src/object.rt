@@ -2,39 +2,33 @@
 ghost use Rattle.std.specs.Prelude.{◌≤◌, ◌<◌};
 ghost use Rattle.records.specs.Records.{Emitted};
 ghost use Rattle.rows.specs.Readable.{FieldPart};
-ghost use Rattle.rows.specs.Index.{Legible};
-ghost use Rattle.rising.specs.Lists.{Prepared};
 ghost use Rattle.validation.specs.Object.{field_set_records, object_records, interface_records};
 ghost use Rattle.validation.specs.Bounds.{most_of_fields, most_of_object, most_of_kind};
 
+use implementing::implementor::Implementor;
 use implementing::interface::validate_edges;
 use implementing::recursive_interface::validate_self_edges;
-use matching::implementor::Implementor;
+use lent::Schema;
 use records::{Record, put, used};
 use rows::cells::field_rows;
 use rows::parts::{edges_of, edges_start, fields_of, fields_start};
 use rules::field::validate_field_definitions;
-use table::layout::Layout;
 use table::numbers::TypeRow;
 
 // The fields; 7 where there is none.
 fn validate_fields(
-    text: &[u8],
-    words: &[u32],
-    l: Layout,
-    index: &[u16],
+    schema: &Schema,
     t: TypeRow,
     first: usize,
     fields: &[u32],
     out: &mut [u32],
 ) -> usize
-    requires legible { Legible text.now words.now l index.now }
-    requires t_lt_types { t.0 < l.types }
-    requires field_part { FieldPart l first fields.now }
-    ensures emitted { Emitted (field_set_records text.now words.now t.0 first fields.now) out.old out.new result }
+    requires t_lt_types { t.0 < schema.now.table.layout.types }
+    requires field_part { FieldPart schema.now.table.layout first fields.now }
+    ensures emitted { Emitted (field_set_records schema.now.text.now schema.now.table.words.now t.0 first fields.now) out.old out.new result }
     ensures upper_bound { result ≤ most_of_fields }
 {
-    let n = validate_field_definitions(text, words, l, index, t, first, fields, out);
+    let n = validate_field_definitions(schema, t, first, fields, out);
     if field_rows(fields) == 0 {
         let at = used(n, out.len());
         return n + put(&mut out[at..], Record::empty_field_set(t));
@@ -42,50 +36,35 @@ fn validate_fields(
     n
 }
 
-pub fn validate_object_type_definition(
-    text: &[u8],
-    words: &[u32],
-    l: Layout,
-    index: &[u16],
-    lists: &[u16],
-    t: TypeRow,
-    out: &mut [u32],
-) -> usize
-    requires prepared { Prepared text.now words.now l index.now lists.now }
-    requires t_lt_types { t.0 < l.types }
-    ensures emitted { Emitted (object_records text.now words.now t.0) out.old out.new result }
+pub fn validate_object_type_definition(schema: &Schema, t: TypeRow, out: &mut [u32]) -> usize
+    requires { t.0 < schema.now.table.layout.types }
+    ensures emitted { Emitted (object_records schema.now.text.now schema.now.table.words.now t.0) out.old out.new result }
     ensures upper_bound { result ≤ most_of_object }
 {
-    let edges_first = edges_start(words, l, t);
-    let edges = edges_of(words, l, t);
-    let fields_first = fields_start(words, l, t);
-    let fields = fields_of(words, l, t);
-    let n = validate_fields(text, words, l, index, t, fields_first, fields, out);
+    let table = &schema.table;
+    let edges_first = edges_start(table.words, table.layout, t);
+    let edges = edges_of(table.words, table.layout, t);
+    let fields_first = fields_start(table.words, table.layout, t);
+    let fields = fields_of(table.words, table.layout, t);
+    let n = validate_fields(schema, t, fields_first, fields, out);
     let at = used(n, out.len());
-    let own = Implementor {
+    let implementor = Implementor {
         ty: t,
         edges_first,
         fields_first,
     };
-    n + validate_edges(words, l, index, lists, own, edges, fields, &mut out[at..])
+    n + validate_edges(table, implementor, edges, fields, &mut out[at..])
 }
 
-pub fn validate_interface_definition(
-    text: &[u8],
-    words: &[u32],
-    l: Layout,
-    index: &[u16],
-    lists: &[u16],
-    t: TypeRow,
-    out: &mut [u32],
-) -> usize
-    requires prepared { Prepared text.now words.now l index.now lists.now }
-    requires t_lt_types { t.0 < l.types }
-    ensures emitted { Emitted (interface_records text.now words.now t.0) out.old out.new result }
+pub fn validate_interface_definition(schema: &Schema, t: TypeRow, out: &mut [u32]) -> usize
+    requires { t.0 < schema.now.table.layout.types }
+    ensures emitted { Emitted (interface_records schema.now.text.now schema.now.table.words.now t.0) out.old out.new result }
     ensures upper_bound { result ≤ most_of_kind }
 {
-    let first = edges_start(words, l, t);
-    let n = validate_self_edges(words, l, t, first, edges_of(words, l, t), out);
+    let table = &schema.table;
+    let first = edges_start(table.words, table.layout, t);
+    let edges = edges_of(table.words, table.layout, t);
+    let n = validate_self_edges(table, t, first, edges, out);
     let at = used(n, out.len());
-    n + validate_object_type_definition(text, words, l, index, lists, t, &mut out[at..])
+    n + validate_object_type_definition(schema, t, &mut out[at..])
 }

@@ -2,7 +2,7 @@
 use mathlib.Core.Path.{◌≡◌, refl}
 use mathlib.Core.Bool.{Bool, true, false, ◌&&◌, ◌||◌}
 use mathlib.Core.List.{List}
-use mathlib.Core.Logic.{◌⊎◌, inl, inr, ⊎_elim}
+use mathlib.Core.Logic.{⊎_elim, ◌≢◌}
 use Prim.Native.Nat.{ℕ, zero, suc, ◌<◌, zero-le}
 use native.Mathlib.Omega.{arith}
 use lib.Dec.{ltb, eqb}
@@ -27,13 +27,13 @@ module _ (w : List ℕ) where
   abbrev l : Layout
   l = layout_of w
 
-  root_is : (op : ℕ) → root_good w l op ≡ true → (root w op < name_count w) ⊎ (root w op ≡ none)
+  root_is : (op : ℕ) → root_good w l op ≡ true → root w op ≢ none → root w op < name_count w
   unfolding root_good
-  root_is op e =
-      ⊎_elim (λ a. inl (ltb-true (root w op) (name_count w) a)) (λ a. inr (eqb-true (root w op) none a))
+  root_is op e some =
+      ⊎_elim (λ a. ltb-true (root w op) (name_count w) a) (λ a. absurd (some (eqb-true (root w op) none a)))
       (or_cases (ltb (root w op) (name_count w)) (eqb (root w op) none) e)
 
-  roots_are : roots_good w l ≡ true → (op : ℕ) → op < 3 → (root w op < name_count w) ⊎ (root w op ≡ none)
+  roots_are : roots_good w l ≡ true → (op : ℕ) → op < 3 → root w op ≢ none → root w op < name_count w
   unfolding roots_good
   roots_are e zero h = root_is 0 (and3 (root_good w l 0) (root_good w l 1) (root_good w l 2) e).0
   roots_are e (suc zero) h = root_is 1 (and3 (root_good w l 0) (root_good w l 1) (root_good w l 2) e).1

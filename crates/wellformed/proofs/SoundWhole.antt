@@ -57,8 +57,9 @@ module _ (text w : List ℕ) (s : Sound text w) where
   root_good_lem : (op : ℕ) → op < 3 → root_good w l op ≡ true
   unfolding root_good
   root_good_lem op h =
-      ⊎_elim (λ e. or_first (ltb (root w op) (name_count w)) (eqb (root w op) none) (lt-ltb (root w op) (name_count w) e))
-      (λ e. or_true (ltb (root w op) (name_count w)) (eqb (root w op) none) (eq-eqb (root w op) none e)) (s.words.root_name_fits op h)
+      ⊎_elim (λ e. or_true (ltb (root w op) (name_count w)) (eqb (root w op) none) e)
+      (λ e. or_first (ltb (root w op) (name_count w)) (eqb (root w op) none) (lt-ltb (root w op) (name_count w) (s.words.root_name_fits op h (eqb-false (root w op) none e))))
+      (decide (eqb (root w op) none))
 
   words : words_good w l ≡ true
   unfolding words_good types_good fields_good arguments_good lists_good roots_good

@@ -1,6 +1,6 @@
 -- What a well-formed table is good for: the facts that follow from refusal 0, in the form in which proofs use them. Layers above ask for
 -- `Sound text w`; the theorem that refusal 0 gives it, and the other way round, is in proofs/SoundLaws.
-use Rattle.std.specs.Prelude.{◌≡◌, true, List, ◌⊎◌, ℕ, ◌≤◌, ◌<◌, length}
+use Rattle.std.specs.Prelude.{◌≡◌, true, List, ◌≢◌, ℕ, ◌≤◌, ◌<◌, length}
 use Rattle.names.specs.Wraps.{good_wrap}
 use Rattle.table.specs.Kinds.{kinds, owns_edges, owns_fields, owns_members, owns_values, takes_arguments, takes_default}
 use Rattle.table.specs.Layout.{root_words, most_text, none, layout_of, Laid, name_count, type_count, edge_count, field_count, argument_count, member_count, value_count, type_name, type_kind, type_flag, edges_start, edges_end, fields_start, fields_end, members_start, members_end, values_start, values_end, edge_name, field_name, field_type, field_wrap, arguments_start, arguments_end, field_default, argument_name, argument_type, argument_wrap, argument_default, member_name, value_name, root, edges_ends, fields_ends, members_ends, values_ends, arguments_ends, type_names, edge_names, field_names, member_names, value_names}
@@ -24,7 +24,7 @@ pub record SoundWords (w : List ℕ) : Type 0 where
   pub edge_name_fits : (e : ℕ) → e < edge_count w → edge_name w e < name_count w
   pub member_name_fits : (m : ℕ) → m < member_count w → member_name w m < name_count w
   pub value_name_fits : (v : ℕ) → v < value_count w → value_name w v < name_count w
-  pub root_name_fits : (op : ℕ) → op < root_words → (root w op < name_count w) ⊎ (root w op ≡ none)
+  pub root_name_fits : (op : ℕ) → op < root_words → root w op ≢ none → root w op < name_count w
 
 -- the runs of each section
 pub record SoundRuns (w : List ℕ) : Type 0 where

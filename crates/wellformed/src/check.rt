@@ -8,14 +8,9 @@ use crate::refusal5::rows_good;
 use crate::refusal6::names_distinct;
 use name_section::names_right;
 use table::layout::{Layout, layout_of};
-use table::refusal::Refusal;
+use table::refusal::Malformed;
 
-#[derive(Clone, Copy)]
-pub enum Verdict {
-    WellFormed,
-    Refused(Refusal),
-}
-
+#[tactic(auto, unfolding(crate::specs::WellFormed::in_limits))]
 fn in_limits(text: &[u8], l: Layout) -> bool
     ensures { result ≡ in_limits text.now l }
 {
@@ -38,48 +33,50 @@ fn right_length(words: &[u32], l: Layout) -> bool
 }
 
 // The refusals of names and rows, of a table that keeps its limits and has the right length.
-fn check_laid(text: &[u8], words: &[u32], l: Layout) -> Verdict
+#[tactic(auto, unfolding(crate::specs::WellFormed::refusal_laid))]
+fn check_laid(text: &[u8], words: &[u32], l: Layout) -> Result<(), Malformed>
     requires laid { Laid words.now l }
     requires text_len_bound { length text.now ≤ most_text }
     ensures result_value { verdict_number result ≡ refusal_laid text.now words.now l }
     ensures proper { Proper result }
 {
     if !names_right(text, words, l) {
-        return Verdict::Refused(Refusal::BAD_NAMES);
+        return Err(Malformed::BadNames);
     }
     if !rows_good(words, l) {
-        return Verdict::Refused(Refusal::BAD_WORD);
+        return Err(Malformed::BadWord);
     }
     if !names_distinct(words, l) {
-        return Verdict::Refused(Refusal::TWICE);
+        return Err(Malformed::Twice);
     }
-    Verdict::WellFormed
+    Ok(())
 }
 
 // Whether a text and a table are well-formed, or the first refusal.
-pub fn check_table(text: &[u8], words: &[u32]) -> Verdict
+#[tactic(auto, unfolding(crate::specs::WellFormed::refusal))]
+pub fn check_table(text: &[u8], words: &[u32]) -> Result<(), Malformed>
     ensures result_value { verdict_number result ≡ refusal text.now words.now }
     ensures proper { Proper result }
 {
     if words.len() < Layout::HEADER {
-        return Verdict::Refused(Refusal::TOO_FEW_WORDS);
+        return Err(Malformed::TooFewWords);
     }
     let l = layout_of(words);
     if !in_limits(text, l) {
-        return Verdict::Refused(Refusal::ABOVE_LIMIT);
+        return Err(Malformed::AboveLimit);
     }
     if !right_length(words, l) {
-        return Verdict::Refused(Refusal::WRONG_LENGTH);
+        return Err(Malformed::WrongLength);
     }
     check_laid(text, words, l)
 }
 
 // Document 01's number of a verdict.
-pub fn number(v: Verdict) -> u32
-    ensures { result ≡ verdict_number v }
+pub fn number(verdict: Result<(), Malformed>) -> u32
+    ensures { result ≡ verdict_number verdict }
 {
-    match v {
-        Verdict::WellFormed => 0,
-        Verdict::Refused(refusal) => refusal.0,
+    match verdict {
+        Ok(()) => 0,
+        Err(malformed) => u32::from(malformed),
     }
 }

@@ -13,4 +13,4 @@ pub mod refusal4;
 pub mod refusal5;
 pub mod refusal6;
 
-pub use check::{Verdict, check_table};
+pub use check::check_table;

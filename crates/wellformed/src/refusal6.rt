@@ -10,6 +10,7 @@ use table::layout::{Column, Layout, end_at, start_at};
 use table::numbers::TypeRow;
 
 // No name of type t stands twice; `ends` cuts the rows of `names` by type.
+#[tactic(auto, unfolding(crate::specs::WellFormed::run_distinct))]
 fn run_distinct(words: &[u32], names: Column, ends: Column, t: TypeRow) -> bool
     requires inside { Inside words.now names }
     requires inside_2 { Inside words.now ends }
@@ -26,6 +27,7 @@ fn run_distinct(words: &[u32], names: Column, ends: Column, t: TypeRow) -> bool
     )
 }
 
+#[tactic(auto, unfolding(crate::specs::WellFormed::rows_distinct))]
 fn rows_distinct(words: &[u32], l: Layout, t: TypeRow) -> bool
     requires laid { Laid words.now l }
     requires t_lt_types { t.0 < l.types }
@@ -43,16 +45,10 @@ fn rows_all_distinct(words: &[u32], l: Layout) -> bool
     requires l_value { rows_good words.now l ≡ true }
     ensures { result ≡ rows_all_distinct words.now l }
 {
-    let mut t = 0;
-    while t < l.types {
-        if !rows_distinct(words, l, TypeRow(t as u32)) {
-            return false;
-        }
-        t += 1;
-    }
-    true
+    (0..l.types).all(|t| rows_distinct(words, l, TypeRow(t as u32)))
 }
 
+#[tactic(auto, unfolding(crate::specs::WellFormed::names_distinct))]
 pub fn names_distinct(words: &[u32], l: Layout) -> bool
     requires laid { Laid words.now l }
     requires l_value { rows_good words.now l ≡ true }

@@ -14,6 +14,7 @@ ghost use Rattle.writing.specs.Writing.{with_word, Opened, Closed};
 use table::layout::Column;
 
 // Sets the word of row i in a column.
+#[tactic(auto, unfolding(crate::specs::Writing::with_word))]
 pub fn set_word(words: &mut [u32], col: Column, i: usize, word: u32)
     requires inside { Inside words.old col }
     requires i_lt_rows { i < col.rows }
@@ -28,11 +29,7 @@ fn open_room(words: &mut [u32], at: usize, width: usize)
     requires { at + width ≤ length words.old }
     ensures { Opened at width words.old words.new }
 {
-    let mut i = words.len();
-    while at + width < i {
-        i -= 1;
-        words[i] = words[i - width];
-    }
+    words.copy_within(at..words.len() - width, at + width);
 }
 
 // Moves the words behind a room of so many down into it; as many at the end stay.
@@ -40,12 +37,7 @@ fn close_room(words: &mut [u32], at: usize, width: usize)
     requires { at + width ≤ length words.old }
     ensures { Closed at width words.old words.new }
 {
-    let end = words.len() - width;
-    let mut i = at;
-    while i < end {
-        words[i] = words[i + width];
-        i += 1;
-    }
+    words.copy_within(at + width.., at);
 }
 
 // Opens room for a row before row i of a section, whose first column is lent. The slice has that room to spare behind the table.

@@ -3,4 +3,4 @@ use Rattle.bar.proofs.RowsFit.{rows_fit}
 use Rattle.bar.proofs.check.Goals as goal
 
 pub show_records-requires : goal.show_records-requires
-show_records-requires g c = rows_fit _ _ _ _ _ _ _ _ c.records.ensures c.in-Rows.is
+show_records-requires g c = rows_fit _ _ _ _ _ _ _ _ c.records.ensures c.in-Ok.is

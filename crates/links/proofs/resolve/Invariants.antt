@@ -1,12 +1,9 @@
 -- `resolve`: after f rows the cells of those fields are right.
-use mathlib.Core.Path.{◌≡◌}
-use Prim.Native.Nat.{◌≤◌, ◌-◌}
-use lib.ListN.{length}
-use Rattle.links.proofs.LinkLaws.{Resolving}
+use Rattle.std.proofs.Common.{◌≡◌, ℕ, ◌<◌, get_or}
+use Rattle.table.specs.Layout.{type_count}
+use Rattle.rows.specs.Index.{cell_of}
+use Rattle.links.specs.Fields.{chain_target}
 use Rattle.links.proofs.resolve.Given as goal
 
 abbrev pub invariant-loop-f : goal.invariant-loop-f
-invariant-loop-f l = (l.f ≤ l.l.fields) × Resolving l.words l.f l.targets × (length l.targets ≡ length l.initial.targets)
-
-abbrev pub decreases-loop-f : goal.decreases-loop-f
-decreases-loop-f l = l.l.fields - l.f
+invariant-loop-f l = (h : ℕ) → h < l.f → get_or l.targets h 0 ≡ cell_of (chain_target l.words h) (type_count l.words)

@@ -1,14 +1,8 @@
 -- Both names lie in the text, since all names do; where they start at one place, their ends decide.
 use native.Mathlib.Omega.{arith}
-use borrow.Author.Tests.{eq-eqb, ne_eqb}
 use Prim.Native.Nat.{◌-◌, ◌<◌}
-use Rattle.name_section.specs.NameSection.{name_rises}
 use Rattle.name_section.proofs.TextLaws.{name_in, rises_same}
 use Rattle.name_section.proofs.name_rises.Goals as goal
-
-pub returns-then-n-eq0 : goal.returns-then-n-eq0
-unfolding name_rises
-returns-then-n-eq0 c = simp (eq-eqb _ 0 c.if-n-eq0.true)
 
 pub returns-then-name_start : goal.returns-then-name_start
 returns-then-name_start c =
@@ -23,7 +17,3 @@ name_bytes-requires c =
 pub name_bytes-requires-2 : goal.name_bytes-requires-2
 name_bytes-requires-2 c =
     record { laid = c.requires.laid; n_lt_names = c.requires.n_lt_names; n_in_bounds = name_in _ _ _ c.requires.l_value c.args.n.0 c.requires.n_lt_names }
-
-pub returns : goal.returns
-unfolding name_rises
-returns c = simp (ne_eqb _ 0 c.if-n-eq0.false, c.comes_before.ensures, c.name_bytes.ensures, c.name_bytes-2.ensures)

@@ -1,18 +1,6 @@
-use mathlib.Core.Path.{◌≡◌, refl, ◌∙◌}
-use native.Mathlib.Omega.{arith}
-use Rattle.records.proofs.Records.{each_zero, each_more}
-use Rattle.building.proofs.BuildingLaws.{added_none, added_seq, added_length}
-use Rattle.shapes.specs.Shapes.{types}
+-- One row behind the other.
+use Rattle.building.proofs.BuildingLaws.{added_seq}
 use Rattle.shapes.proofs.write_names.Goals as goal
 
-pub loop-i-init : goal.loop-i-init
-loop-i-init c = (omega arith, refl, rw each_zero (added_none _ _))
-
-pub loop-i-preserved : goal.loop-i-preserved
-loop-i-preserved c =
-    (omega arith, added_length c.name_row-next.ensures ∙ c.loop-i.invariant.1, rw each_more (added_seq c.loop-i.invariant.2 c.name_row-next.ensures))
-
 pub returns : goal.returns
-returns c =
-    let e : c.loop-i.i ≡ types = omega arith in
-    added_seq (added_seq (rw e at c.loop-i.invariant.2) c.name_row-next-2.ensures) c.name_row.ensures
+returns c = added_seq (added_seq c.write_letter_names-at.ensures c.name_row-at.ensures) c.name_row.ensures

@@ -1,15 +1,8 @@
-use mathlib.Core.Path.{◌≡◌, refl, ◌∙◌}
-use native.Mathlib.Omega.{arith}
-use Rattle.records.proofs.Records.{each_zero, each_more}
-use Rattle.building.proofs.BuildingLaws.{added_none, added_seq, added_length}
+use Rattle.shapes.proofs.EachLaws.{none_added, next_added}
 use Rattle.boards.proofs.tables.write_types.Goals as goal
 
 pub loop-i-init : goal.loop-i-init
-loop-i-init c = (omega arith, refl, rw each_zero (added_none _ _))
+loop-i-init c = none_added _ _ _
 
 pub loop-i-preserved : goal.loop-i-preserved
-loop-i-preserved c =
-    (omega arith, added_length c.type_row-next.ensures ∙ c.loop-i.invariant.1, rw each_more (added_seq c.loop-i.invariant.2 c.type_row-next.ensures))
-
-pub returns : goal.returns
-returns c = let e : c.loop-i.i ≡ c.args.types = omega arith in rw e at c.loop-i.invariant.2
+loop-i-preserved c = next_added _ c.loop-i.invariant (rw c.from.ensures at c.type_row-next.ensures)

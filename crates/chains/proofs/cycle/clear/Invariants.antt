@@ -1,12 +1,6 @@
--- `chains::clear` meets its contract: after i turns the first i words are 0.
-use mathlib.Core.Path.{◌≡◌}
-use mathlib.Core.List.{◌++◌}
-use Prim.Native.Nat.{◌≤◌, ◌-◌}
-use lib.ListN.{length, drop, replicate}
+-- `clear`: the words that the loop has passed are 0.
+use Rattle.std.proofs.Common.{◌≡◌, ◌++◌, drop, replicate}
 use Rattle.chains.proofs.cycle.clear.Given as goal
 
-abbrev pub invariant-loop-i : goal.invariant-loop-i
-invariant-loop-i l = (l.i ≤ l.n) × (length l.work ≡ length l.initial.work) × (l.work ≡ replicate l.i 0 ++ drop l.i l.initial.work)
-
-abbrev pub decreases-loop-i : goal.decreases-loop-i
-decreases-loop-i l = l.n - l.i
+abbrev pub invariant-loop-word : goal.invariant-loop-word
+invariant-loop-word l = l.word-items ≡ replicate l.word-index 0 ++ drop l.word-index l.initial.word-items

@@ -5,8 +5,5 @@ use Rattle.links.specs.Fields.{chain_graph}
 use Rattle.chains.specs.Settle.{Settling}
 use Rattle.chains.proofs.settle.settle_from.Given as goal
 
-abbrev pub invariant-loop-steps : goal.invariant-loop-steps
-invariant-loop-steps l = (l.types ≡ type_count l.words) × Settling (chain_graph l.words) l.initial.work l.work
-
-abbrev pub decreases-loop-steps : goal.decreases-loop-steps
-decreases-loop-steps l = l.steps
+abbrev pub invariant-loop : goal.invariant-loop
+invariant-loop l = (l.types ≡ type_count l.links.words.now) × Settling (chain_graph l.links.words.now) l.initial.work l.work

@@ -3,4 +3,4 @@ use Rattle.comparing.proofs.implementation_argument.has_same_type.Goals as goal
 
 pub returns : goal.returns
 returns c =
-    simp (c.same.ensures, c.same-2.ensures, c.argument_type.ensures, c.argument_type-2.ensures, c.argument_wrap.ensures, c.argument_wrap-2.ensures)
+    simp (c.eq.ensures, c.eq-2.ensures, c.argument_type.ensures, c.argument_type-2.ensures, c.argument_wrap.ensures, c.argument_wrap-2.ensures)

@@ -1,21 +1,9 @@
-use borrow.Author.Rules.{rules}
+-- Each argument lists one record at most.
 use native.Mathlib.Omega.{arith}
-use Rattle.records.proofs.Records.{each_zero, each_more, emit_none, emit_seq}
-use mathlib.Core.Path.{◌≡◌}
-use Rattle.rows.specs.Parts.{argument_rows}
+use borrow.Author.Rules.{rules}
 use Rattle.comparing.proofs.implementation_argument.validate_each_interface_argument.Goals as goal
 
-pub loop-i-init : goal.loop-i-init
-loop-i-init c = (omega arith, c.argument_rows-rows.ensures, omega arith, rw each_zero (emit_none _))
-
-pub validate_interface_argument-n-requires : goal.validate_interface_argument-n-requires
-validate_interface_argument-n-requires c =
-    record { arguments_bound = c.requires.arguments_bound; i_bound = rw c.loop-i.invariant.1 at c.loop-i-test.true; arguments_helped = c.requires.arguments_helped }
-
-pub loop-i-preserved : goal.loop-i-preserved
-loop-i-preserved c =
-    (search rules, c.loop-i.invariant.1, search rules, rw each_more (emit_seq _ _ _ _ _ _ _ _ c.loop-i.invariant.3 c.used-at.ensures c.validate_interface_argument-n.ensures.emitted))
-
-pub returns : goal.returns
-returns c =
-    let e : c.loop-i.i ≡ argument_rows c.args.interface_arguments.now = omega arith in record { emitted = rw e at c.loop-i.invariant.3; upper_bound = omega arith }
+pub returns-clause-upper_bound : goal.returns-clause-upper_bound
+returns-clause-upper_bound c =
+    let b = c.put_each.ensures.upper_bound 1 (λ i o r u h p. search rules) in
+    omega (arith, c.argument_rows.ensures, c.requires.arguments_bound)

@@ -16,11 +16,11 @@ returns-in_default c =
 pub returns-then-non_null-argument_default : goal.returns-then-non_null-argument_default
 unfolding extra_argument
 returns-then-non_null-argument_default c =
-    let h = rw c.argument_name.ensures at (no_row _ _ (sym c.look_up_argument.ensures ∙ c.in-Nothing.is)) in
+    let h = rw c.argument_name.ensures at (no_row _ _ (sym c.look_up_argument.ensures ∙ c.in-None.is)) in
     record { emitted = simp (le-ltb _ _ h, simp (c.non_null.ensures, c.argument_wrap.ensures, c.argument_default.ensures) at c.if-non_null-argument_default.true, ← c.extra_required_implementation_field_argument.ensures) c.put.ensures.emitted; upper_bound = c.put.ensures.upper_bound }
 
 pub returns : goal.returns
 unfolding extra_argument
 returns c =
-    let h = rw c.argument_name.ensures at (no_row _ _ (sym c.look_up_argument.ensures ∙ c.in-Nothing.is)) in
+    let h = rw c.argument_name.ensures at (no_row _ _ (sym c.look_up_argument.ensures ∙ c.in-None.is)) in
     record { emitted = simp (le-ltb _ _ h, simp (c.non_null.ensures, c.argument_wrap.ensures, c.argument_default.ensures) at c.if-non_null-argument_default.false) (emit_none _); upper_bound = omega arith }

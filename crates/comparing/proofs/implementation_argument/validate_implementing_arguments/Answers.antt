@@ -7,11 +7,11 @@ use Rattle.comparing.proofs.implementation_argument.validate_implementing_argume
 
 pub validate_interface_arguments-n-requires : goal.validate_interface_arguments-n-requires
 validate_interface_arguments-n-requires c =
-    record { arguments_bound = (rw c.arguments_start-first.ensures c.arguments_of-arguments.ensures.argument_part.within, rw c.arguments_start-interface_first.ensures c.arguments_of-interface_arguments.ensures.argument_part.within); arguments_named = arguments_named c.requires.sound_rows c.arguments_of-arguments.ensures.argument_part }
+    record { arguments_bound = (rw c.arguments_start-first.ensures c.arguments_of-arguments.ensures.argument_part.within, rw c.arguments_start-interface_first.ensures c.arguments_of-interface_arguments.ensures.argument_part.within); arguments_named = arguments_named c.args.table.now.findable.indexed.rows c.arguments_of-arguments.ensures.argument_part }
 
 pub validate_extra_arguments-requires : goal.validate_extra_arguments-requires
 validate_extra_arguments-requires c =
-    record { arguments_bound = rw c.arguments_start-first.ensures c.arguments_of-arguments.ensures.argument_part.within; arguments_named = arguments_named c.requires.sound_rows c.arguments_of-interface_arguments.ensures.argument_part }
+    record { arguments_bound = rw c.arguments_start-first.ensures c.arguments_of-arguments.ensures.argument_part.within; arguments_named = arguments_named c.args.table.now.findable.indexed.rows c.arguments_of-interface_arguments.ensures.argument_part }
 
 pub returns : goal.returns
 unfolding implementing_arguments

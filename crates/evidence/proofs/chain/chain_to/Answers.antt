@@ -1,25 +1,36 @@
--- `chain_to`: each test of the definition is a branch, and a field of the type is a field of the table.
-use borrow.Author.Tests.{lt-ltb, le-ltb, le-leb, lt-leb}
+-- `chain_to`: the test of the code is that of the definition, and a field of the type is a field of the table.
+use borrow.Author.Tests.{ltb-true}
 use native.Mathlib.Omega.{arith}
-use mathlib.Core.Path.{refl}
+use mathlib.Core.Path.{◌≡◌, refl, sym, ◌∙◌}
+use Prim.Native.Nat.{ℕ}
+use lib.Dec.{leb, ltb}
+use Rattle.std.proofs.Common.{nat_cmp, is_le, is_lt}
+use Rattle.std.proofs.lemmas.Bool.Decides.{nat_tests}
+use Rattle.names.proofs.BoolLaws.{and_right}
 use Rattle.evidence.specs.ChainTo.{chain_to}
 use Rattle.evidence.proofs.ChainLaws.{chained}
 use Rattle.evidence.proofs.chain.chain_to.Goals as goal
 
-pub returns-then-f-chains_start : goal.returns-then-f-chains_start
-unfolding chain_to
-returns-then-f-chains_start c = rw (← c.chains_start.ensures, lt-leb _ _ c.if-f-chains_start.true) refl
+le_leb : (a b : ℕ) → is_le (nat_cmp a b) ≡ leb a b
+le_leb a b = grind (arith, nat_tests)
 
-pub returns-then-chains_end-f : goal.returns-then-chains_end-f
+lt_ltb : (a b : ℕ) → is_lt (nat_cmp a b) ≡ ltb a b
+lt_ltb a b = grind (arith, nat_tests)
+
+pub returns-then-not-contains : goal.returns-then-not-contains
 unfolding chain_to
-returns-then-chains_end-f c =
-    rw (← c.chains_start.ensures, le-leb _ _ c.if-f-chains_start.false, ← c.chains_end.ensures, le-ltb _ _ c.if-chains_end-f.true) refl
+returns-then-not-contains c =
+    let e = simp (le_leb, lt_ltb) at c.contains.ensures.value in
+    rw (← c.start.ensures, ← c.end.ensures, sym e ∙ c.if-not-contains.true) refl
 
 pub target-requires : goal.target-requires
 target-requires c =
-    record { resolved = c.requires.linked.targets; f_bound = omega (arith, (chained c.requires.linked.rows).inside c.args.t.0 c.requires.t_bound) }
+    let e = simp (le_leb, lt_ltb) at c.contains.ensures.value in
+    let low = ltb-true c.args.f c.end.result (and_right (leb c.start.result c.args.f) _ (sym e ∙ c.if-not-contains.false)) in
+    omega (arith, low, (chained c.args.links.now.linked.rows).inside c.args.t.0 c.requires)
 
 pub returns : goal.returns
 unfolding chain_to
 returns c =
-    rw (← c.chains_start.ensures, le-leb _ _ c.if-f-chains_start.false, ← c.chains_end.ensures, lt-ltb _ _ c.if-chains_end-f.false) c.target.ensures
+    let e = simp (le_leb, lt_ltb) at c.contains.ensures.value in
+    rw (← c.start.ensures, ← c.end.ensures, sym e ∙ c.if-not-contains.false) c.target.ensures

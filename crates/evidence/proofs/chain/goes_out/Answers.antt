@@ -8,6 +8,6 @@ returns-in_default c = rw (not_led _ _ _ _ c.chain_to.ensures c.in_default.is) r
 
 pub returns : goal.returns
 returns c =
-    let m = led _ _ _ _ c.chain_to.ensures _ c.in-At.is in
+    let m = led _ _ _ _ c.chain_to.ensures _ c.in-Some.is in
     rw (m.chain, m.leads)
-    (simp (c.leads.ensures, c.same.ensures, c.leader.ensures, c.leader-2.ensures, c.out_distance.ensures.value, c.out_distance-2.ensures.value))
+    (simp (c.leads.ensures, c.eq.ensures, c.leader.ensures, c.leader-2.ensures, c.out_distance.ensures.value, c.out_distance-2.ensures.value))

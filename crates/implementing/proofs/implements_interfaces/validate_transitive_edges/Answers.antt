@@ -1,23 +1,17 @@
-use borrow.Author.Rules.{rules}
+-- Each edge of the interface lists one record at most.
 use native.Mathlib.Omega.{arith}
-use Rattle.records.proofs.Records.{each_zero, each_more, emit_none, emit_seq}
-use Rattle.implementing.specs.Interface.{transitive_edges}
-use mathlib.Core.Path.{◌≡◌}
-use Rattle.rows.specs.Parts.{edge_rows}
+use borrow.Author.Rules.{rules}
+use Rattle.rows.specs.Parts.{edges_of}
+use Rattle.implementing.specs.Interface.{transitive_edge, transitive_edges}
 use Rattle.implementing.proofs.implements_interfaces.validate_transitive_edges.Goals as goal
 
-pub loop-i-init : goal.loop-i-init
-loop-i-init c = (omega arith, c.edge_rows-rows.ensures, omega arith, rw each_zero (emit_none _))
-
-pub validate_transitive_edge-n-requires : goal.validate_transitive_edge-n-requires
-validate_transitive_edge-n-requires c =
-    record { sorted = c.requires.sorted; ty_lt_types = c.requires.ty_lt_types.0; i_bound = (rw c.loop-i.invariant.1 at c.loop-i-test.true, rw c.edges_start-first.ensures c.edges_of-interface_edges.ensures.name_part.within) }
-
-pub loop-i-preserved : goal.loop-i-preserved
-loop-i-preserved c =
-    (search rules, c.loop-i.invariant.1, search rules, rw each_more (emit_seq _ _ _ _ _ _ _ _ c.loop-i.invariant.3 c.used-at.ensures c.validate_transitive_edge-n.ensures.emitted))
-
-pub returns : goal.returns
+pub returns-clause-emitted : goal.returns-clause-emitted
 unfolding transitive_edges
-returns c =
-    let e : c.loop-i.i ≡ edge_rows c.edges_of-interface_edges.result.now = omega arith in record { emitted = simp (c.edges_start-first.ensures, c.edges_of-interface_edges.ensures.result_value) at (rw e at c.loop-i.invariant.3); upper_bound = omega arith }
+returns-clause-emitted c =
+    rw (c.edge_rows.ensures, c.edges_start-first.ensures, c.edges_of-interface_edges.ensures.result_value) at
+    (c.put_each.ensures.emitted (transitive_edge c.args.own.now.ty.0 (edges_of c.args.own.now.table.now.words.now c.args.own.now.ty.0) c.args.via_edge c.edges_start-first.result c.edges_of-interface_edges.result.now) (λ i o r u h p. search rules))
+
+pub returns-clause-upper_bound : goal.returns-clause-upper_bound
+returns-clause-upper_bound c =
+    let b = c.put_each.ensures.upper_bound 1 (λ i o r u h p. search rules) in
+    omega (arith, c.edge_rows.ensures, c.edges_of-interface_edges.ensures.name_part.within)

@@ -1,19 +1,15 @@
-use borrow.Author.Rules.{rules}
+-- Each edge lists one record at most.
 use native.Mathlib.Omega.{arith}
-use Rattle.records.proofs.Records.{each_zero, each_more, emit_none, emit_seq}
+use borrow.Author.Rules.{rules}
 use Rattle.implementing.specs.Interface.{self_edge}
-use mathlib.Core.Path.{◌≡◌}
-use Rattle.rows.specs.Parts.{edge_rows}
 use Rattle.implementing.proofs.recursive_interface.validate_self_edges.Goals as goal
 
-pub loop-i-init : goal.loop-i-init
-loop-i-init c = (omega arith, c.edge_rows-rows.ensures, omega arith, rw each_zero (emit_none _))
-
-pub loop-i-preserved : goal.loop-i-preserved
+pub returns-clause-emitted : goal.returns-clause-emitted
 unfolding self_edge
-loop-i-preserved c =
-    (search rules, c.loop-i.invariant.1, search rules, rw each_more (emit_seq _ _ _ _ _ _ _ _ c.loop-i.invariant.3 c.used-at.ensures (simp (c.type_name-own.ensures, c.edge_name.ensures) at c.validate_self_edge-n.ensures.emitted)))
+returns-clause-emitted c =
+    rw c.edge_rows.ensures at (c.put_each.ensures.emitted (self_edge c.args.table.now.words.now c.args.t.0 c.args.first c.args.edges.now) (λ i o r u h p. search rules))
 
-pub returns : goal.returns
-returns c =
-    let e : c.loop-i.i ≡ edge_rows c.args.edges.now = omega arith in record { emitted = rw e at c.loop-i.invariant.3; upper_bound = omega arith }
+pub returns-clause-upper_bound : goal.returns-clause-upper_bound
+returns-clause-upper_bound c =
+    let b = c.put_each.ensures.upper_bound 1 (λ i o r u h p. search rules) in
+    omega (arith, c.edge_rows.ensures, c.requires.name_part.within)

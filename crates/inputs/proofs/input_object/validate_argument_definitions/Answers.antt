@@ -7,7 +7,7 @@ use Rattle.inputs.proofs.input_object.validate_argument_definitions.Goals as goa
 
 pub validate_unique_arguments-requires : goal.validate_unique_arguments-requires
 validate_unique_arguments-requires c =
-    record { arguments_bound = c.requires.argument_part.within; arguments_named = arguments_named c.requires.legible.readable.sound c.requires.argument_part }
+    record { arguments_bound = c.requires.argument_part.within; arguments_named = arguments_named c.args.schema.now.table.findable.indexed.rows c.requires.argument_part }
 
 pub returns : goal.returns
 unfolding arguments_records

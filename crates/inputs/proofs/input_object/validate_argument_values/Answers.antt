@@ -1,23 +1,16 @@
-use borrow.Author.Rules.{rules}
+-- Each argument lists two records at most.
 use native.Mathlib.Omega.{arith}
-use Rattle.records.proofs.Records.{each_zero, each_more, emit_none, emit_seq}
-use mathlib.Core.Path.{◌≡◌}
-use Rattle.rows.specs.Parts.{argument_rows}
+use borrow.Author.Rules.{rules}
 use Rattle.inputs.specs.InputObject.{argument_record}
 use Rattle.inputs.proofs.input_object.validate_argument_values.Goals as goal
 
-pub loop-i-init : goal.loop-i-init
-loop-i-init c = (omega arith, c.argument_rows-rows.ensures, omega arith, rw each_zero (emit_none _))
-
-pub validate_input_value-n-requires : goal.validate_input_value-n-requires
-validate_input_value-n-requires c =
-    record { legible = c.requires.legible; name_lt_names = (rw c.argument_name-name.ensures (c.requires.argument_part.names _ (rw c.loop-i.invariant.1 at c.loop-i-test.true)), rw c.argument_type-ty.ensures (c.requires.argument_part.types _ (rw c.loop-i.invariant.1 at c.loop-i-test.true))) }
-
-pub loop-i-preserved : goal.loop-i-preserved
+pub returns-clause-emitted : goal.returns-clause-emitted
 unfolding argument_record
-loop-i-preserved c =
-    (search rules, c.loop-i.invariant.1, search rules, rw each_more (emit_seq _ _ _ _ _ _ _ _ c.loop-i.invariant.3 c.used-at.ensures (simp (c.argument_name-name.ensures, c.argument_type-ty.ensures, c.type_flag-flag.ensures) at c.validate_input_value-n.ensures.emitted)))
+returns-clause-emitted c =
+    rw c.argument_rows.ensures at
+    (c.put_each.ensures.emitted (argument_record c.args.schema.now.text.now c.args.schema.now.table.words.now c.args.t.0 c.args.first c.args.arguments.now) (λ i o r u h p. search rules))
 
-pub returns : goal.returns
-returns c =
-    let e : c.loop-i.i ≡ argument_rows c.args.arguments.now = omega arith in record { emitted = rw e at c.loop-i.invariant.3; upper_bound = omega arith }
+pub returns-clause-upper_bound : goal.returns-clause-upper_bound
+returns-clause-upper_bound c =
+    let b = c.put_each.ensures.upper_bound 2 (λ i o r u h p. search rules) in
+    omega (arith, c.argument_rows.ensures, c.requires.argument_part.within)

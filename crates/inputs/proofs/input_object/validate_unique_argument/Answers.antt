@@ -19,11 +19,11 @@ returns-in_default c =
 pub returns-then-j-i : goal.returns-then-j-i
 unfolding repeat_record
 returns-then-j-i c =
-    let e = rw c.argument_name.ensures at (row_found _ _ _ (sym c.look_up_argument.ensures ∙ c.in-At.is)) in
+    let e = rw c.argument_name.ensures at (row_found _ _ _ (sym c.look_up_argument.ensures ∙ c.in-Some.is)) in
     record { emitted = simp (← e, lt-ltb _ _ c.if-j-i.true, ← c.unique_input_value.ensures) c.put.ensures.emitted; upper_bound = c.put.ensures.upper_bound }
 
 pub returns : goal.returns
 unfolding repeat_record
 returns c =
-    let e = rw c.argument_name.ensures at (row_found _ _ _ (sym c.look_up_argument.ensures ∙ c.in-At.is)) in
+    let e = rw c.argument_name.ensures at (row_found _ _ _ (sym c.look_up_argument.ensures ∙ c.in-Some.is)) in
     record { emitted = simp (← e, le-ltb _ _ c.if-j-i.false) (emit_none _); upper_bound = omega arith }

@@ -8,5 +8,5 @@ returns-in_default c = rw (leads_nowhere _ _ _ refl _ c.target.ensures c.in_defa
 
 pub returns : goal.returns
 returns c =
-    let m = leads_at _ _ _ refl _ c.target.ensures _ c.in-At.is in
+    let m = leads_at _ _ _ refl _ c.target.ensures _ c.in-Some.is in
     rw (m.below, m.row) (simp (c.number.ensures.value, c.number-2.ensures.value, c.marked.ensures, c.number-3.ensures.value, c.number-4.ensures.value))

@@ -1,24 +1,13 @@
-use native.Mathlib.Omega.{arith}
-use mathlib.Core.Path.{◌≡◌, sym, ◌∙◌}
+-- `some_comes_in`: the iterator answers `any` of the types.
+use Rattle.std.proofs.Common.{refl, arith, ◌∙◌, rules, tests}
+use Rattle.std.proofs.lemmas.Iterator.{YieldsList-from_range}
+use Rattle.std.proofs.lemmas.Iterator.Search.{any_from_yields_List}
 use Rattle.table.specs.Layout.{type_count}
-use Rattle.evidence.proofs.TestLaws.{any_of, any_none, any_more}
+use Rattle.links.specs.Fields.{chain_graph}
+use Rattle.evidence.specs.Rules.{comes_in}
+use Rattle.evidence.proofs.TestLaws.{any_below}
 use Rattle.judge.proofs.rule.some_comes_in.Goals as goal
-
-pub loop-s-init : goal.loop-s-init
-loop-s-init c = (c.types_in-types.ensures, omega arith, any_none _)
-
-pub comes_in-requires : goal.comes_in-requires
-comes_in-requires c = record { linked = c.requires; s_bound = omega (arith, c.loop-s-test.true, c.loop-s.invariant.0) }
-
-pub returns-then-comes_in : goal.returns-then-comes_in
-returns-then-comes_in c =
-    sym (any_of _ _ _ (omega (arith, c.loop-s-test.true, c.loop-s.invariant.0)) (sym c.comes_in.ensures ∙ c.if-comes_in.true))
-
-pub loop-s-preserved : goal.loop-s-preserved
-loop-s-preserved c =
-    (c.loop-s.invariant.0, omega (arith, c.loop-s-test.true, c.loop-s.invariant.0), any_more _ _ c.loop-s.invariant.2 (sym c.comes_in.ensures ∙ c.if-comes_in.false))
 
 pub returns : goal.returns
 returns c =
-    let e : c.loop-s.s ≡ type_count c.args.words.now = omega (arith, c.loop-s-test.false, c.loop-s.invariant.0, c.loop-s.invariant.1) in
-    sym (rw e at c.loop-s.invariant.2)
+    any_from_yields_List (comes_in (chain_graph c.args.links.now.words.now) c.args.ev.now c.args.t.0 c.args.f) _ _ _ c.any.ensures.ran (YieldsList-from_range 0 _ (type_count c.args.links.now.words.now) refl (omega arith)) (λ x b q k. search (rules, tests)) ∙ any_below _ _

@@ -9,7 +9,7 @@ returns-then-out-n c =
 
 pub first_cycle-requires : goal.first_cycle-requires
 first_cycle-requires c =
-    record { linked = c.requires.linked; t_bound = c.requires.t_bound; settled = rw c.count_cycle-n.ensures.work_unchanged c.requires.settled }
+    record { t_bound = c.requires.t_bound; settled = rw c.count_cycle-n.ensures.work_unchanged c.requires.settled }
 
 pub returns : goal.returns
 returns c =

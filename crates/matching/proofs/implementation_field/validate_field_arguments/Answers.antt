@@ -1,33 +1,17 @@
--- `validate_field_arguments`: each branch lists what the definition lists there, by the tests that led to it.
+-- `validate_field_arguments`: the interface's fields are those of its type.
 use native.Mathlib.Omega.{arith}
-use mathlib.Core.Path.{sym, ◌∙◌}
-use Rattle.records.proofs.Records.{emit_none}
-use borrow.Author.Tests.{lt-ltb, le-ltb}
-use Rattle.rows.proofs.FoundRows.{row_found, no_row, found_below}
-use Rattle.matching.specs.Fields.{field_arguments}
-use Rattle.matching.specs.Rules.{field_rule}
+use borrow.Author.Rules.{rules}
+use Rattle.comparing.specs.Bounds.{most_of_interface_field}
+use Rattle.matching.specs.Fields.{interface_fields, field_arguments}
 use Rattle.matching.proofs.implementation_field.validate_field_arguments.Goals as goal
 
-pub returns-in_default : goal.returns-in_default
-unfolding field_rule field_arguments
-returns-in_default c =
-    let h = rw c.field_name.ensures at (no_row _ _ (sym c.look_up_field.ensures ∙ c.in_default.is)) in
-    record { emitted = simp (le-ltb _ _ h) (emit_none _); upper_bound = omega arith }
+pub returns-clause-emitted : goal.returns-clause-emitted
+unfolding interface_fields
+returns-clause-emitted c =
+    rw (c.field_rows.ensures, c.interface_at-interface.ensures.first_is, c.interface_at-interface.ensures.fields_are) at
+    (c.put_each.ensures.emitted (field_arguments c.args.own.now.table.now.words.now c.args.own.now.ty.0 c.args.own.now.fields_first c.args.own.now.fields.now c.args.edge c.interface_at-interface.result.fields.now c.interface_at-interface.result.first) (λ i o r u h p. search rules))
 
-pub overflow_add-own_field : goal.overflow_add-own_field
-overflow_add-own_field c =
-    let b = found_below _ _ _ (sym c.look_up_field.ensures ∙ c.in-At.is) in omega (arith, c.requires.own_fields.part.within)
-
-pub overflow_cast-own_field : goal.overflow_cast-own_field
-overflow_cast-own_field c =
-    let b = found_below _ _ _ (sym c.look_up_field.ensures ∙ c.in-At.is) in omega (arith, c.requires.own_fields.part.within)
-
-pub validate_implementing_arguments-requires : goal.validate_implementing_arguments-requires
-validate_implementing_arguments-requires c =
-    let b = found_below _ _ _ (sym c.look_up_field.ensures ∙ c.in-At.is) in record { sound_rows = c.requires.sound_rows; interface_field_bound = (omega (arith, c.requires.field_part.within), omega (arith, c.requires.own_fields.part.within)) }
-
-pub returns : goal.returns
-unfolding field_rule field_arguments
-returns c =
-    let e = rw c.field_name.ensures at (row_found _ _ _ (sym c.look_up_field.ensures ∙ c.in-At.is)) in
-    record { emitted = simp (← e, lt-ltb _ _ (found_below _ _ _ (sym c.look_up_field.ensures ∙ c.in-At.is))) c.validate_implementing_arguments.ensures.emitted; upper_bound = c.validate_implementing_arguments.ensures.upper_bound }
+pub returns-clause-upper_bound : goal.returns-clause-upper_bound
+returns-clause-upper_bound c =
+    let b = c.put_each.ensures.upper_bound most_of_interface_field (λ i o r u h p. search rules) in
+    omega (arith, c.field_rows.ensures, c.interface_at-interface.ensures.field_part.within, c.args.own.now.table.now.findable.indexed.rows.laid.fields_most)

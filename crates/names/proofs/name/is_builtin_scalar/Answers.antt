@@ -1,8 +1,9 @@
--- Five comparisons, each what `same_bytes` says.
+use Rattle.std.proofs.Common.{◌∙◌}
+use Rattle.std.proofs.Math.Bool.{or_assoc, or-false}
 use Rattle.names.specs.Names.{builtin_scalar}
+use Rattle.names.proofs.NameLaws.{same_pointwise}
 use Rattle.names.proofs.name.is_builtin_scalar.Goals as goal
 
 pub returns : goal.returns
 unfolding builtin_scalar
-returns c =
-    simp (c.same_bytes.ensures, c.same_bytes-2.ensures, c.same_bytes-3.ensures, c.same_bytes-4.ensures, c.same_bytes-5.ensures)
+returns c = c.contains.ensures.value ∙ simp (same_pointwise, or_assoc, or-false)

@@ -1,33 +1,24 @@
-use borrow.Author.Rules.{rules}
-use borrow.Author.Count.{below_more}
 use native.Mathlib.Omega.{arith}
 use mathlib.Core.Path.{sym, ◌∙◌}
 use Prim.Native.Nat.{◌≤◌}
-use Rattle.names.proofs.BoolLaws.{fails, true_false}
+use Rattle.names.proofs.BoolLaws.{fails}
 use Rattle.links.specs.Fields.{chains_end, chain_graph}
 use Rattle.evidence.proofs.ChainLaws.{chained}
-use Rattle.producer.proofs.ChoiceLaws.{comes_before, from_far, from_first, from_none}
+use Rattle.producer.proofs.ChoiceLaws.{from_far, from_first, from_none}
 use Rattle.producer.proofs.fitting.in_from.Goals as goal
 
 pub returns-then-not-nearer : goal.returns-then-not-nearer
 returns-then-not-nearer c =
-    from_far (chain_graph c.args.words.now) c.args.out.now c.args.t.0 c.args.s.0 (fails c.nearer.ensures c.if-not-nearer.true-raw)
-
-pub loop-f-init : goal.loop-f-init
-loop-f-init c = (omega arith, λ h b. comes_before (chain_graph c.args.words.now) c.args.out.now c.args.t.0 c.args.s.0 h (omega arith))
+    from_far (chain_graph c.args.links.now.words.now) c.args.out.now c.args.t.0 c.args.s.0 (fails c.nearer.ensures c.if-not-nearer.true-raw)
 
 pub overflow_cast-result : goal.overflow_cast-result
 overflow_cast-result c = omega (arith, (chained c.requires.helping.rows).inside c.args.s.0 c.requires.s_lt_types)
 
 pub returns-then-comes_in : goal.returns-then-comes_in
 returns-then-comes_in c =
-    from_first (chain_graph c.args.words.now) c.args.out.now c.args.t.0 c.args.s.0 c.loop-f.f (omega (arith, (chained c.requires.helping.rows).inside c.args.s.0 c.requires.s_lt_types)) (sym c.comes_in.ensures ∙ c.if-comes_in.true) c.loop-f.invariant.1
-
-pub loop-f-preserved : goal.loop-f-preserved
-loop-f-preserved c =
-    (search rules, below_more _ c.loop-f.f c.loop-f.invariant.1 (λ q. true_false q (sym c.comes_in.ensures ∙ c.if-comes_in.false)))
+    from_first (chain_graph c.args.links.now.words.now) c.args.out.now c.args.t.0 c.args.s.0 c.loop-f.f (omega (arith, (chained c.requires.helping.rows).inside c.args.s.0 c.requires.s_lt_types)) (sym c.comes_in.ensures ∙ c.if-comes_in.true) c.loop-f.invariant
 
 pub returns : goal.returns
 returns c =
-    let b : chains_end c.args.words.now c.args.s.0 ≤ c.loop-f.f = omega arith in
-    from_none (chain_graph c.args.words.now) c.args.out.now c.args.t.0 c.args.s.0 c.loop-f.f b c.loop-f.invariant.1
+    let b : chains_end c.args.links.now.words.now c.args.s.0 ≤ c.loop-f.f = omega arith in
+    from_none (chain_graph c.args.links.now.words.now) c.args.out.now c.args.t.0 c.args.s.0 c.loop-f.f b c.loop-f.invariant

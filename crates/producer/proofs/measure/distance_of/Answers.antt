@@ -6,26 +6,26 @@ use Rattle.evidence.proofs.Kept.{marked_at, unmarked_at}
 use Rattle.links.specs.Fields.{chain_graph}
 use Rattle.searching.proofs.Lookups.{facts}
 use Rattle.producer.specs.Produced.{IfMarked.unmarked}
-use Rattle.producer.proofs.PassLaws.{distance_itself, distance_level, leader_type, cleared_refl}
+use Rattle.producer.proofs.PassLaws.{distance_itself, distance_level, leader_type}
 use Rattle.producer.proofs.measure.distance_of.Goals as goal
 
-pub returns-then-not-marked : goal.returns-then-not-marked
-returns-then-not-marked c =
-    record { word_is = unmarked (unmarked_at c.args.out.now c.args.t.0 (fails c.marked.ensures c.if-not-marked.true-raw)); cleared = cleared_refl c.requires.may_search.clear }
+pub returns-then-not-marked-clause-word_is : goal.returns-then-not-marked-clause-word_is
+returns-then-not-marked-clause-word_is c =
+    unmarked (unmarked_at c.args.out.now c.args.t.0 (fails c.marked.ensures c.if-not-marked.true-raw))
 
-pub returns-then-leads : goal.returns-then-leads
-returns-then-leads c =
+pub returns-then-leads-clause-word_is : goal.returns-then-leads-clause-word_is
+returns-then-leads-clause-word_is c =
     let n = marked_at c.args.out.now c.args.t.0 (passes c.marked.ensures c.if-not-marked.false-raw) in
-    record { word_is = distance_itself (chain_graph c.args.words.now) c.args.out.now c.args.t.0 n (eqb-true _ _ (sym c.leads.ensures ∙ c.if-leads.true)); cleared = cleared_refl c.requires.may_search.clear }
+    distance_itself (chain_graph c.args.links.now.words.now) c.args.out.now c.args.t.0 n (eqb-true _ _ (sym c.leads.ensures ∙ c.if-leads.true))
 
-pub level-requires : goal.level-requires
-level-requires c =
+pub level-requires-clause-u_lt_types : goal.level-requires-clause-u_lt_types
+level-requires-clause-u_lt_types c =
     let e = (facts c.requires.may_search.help).types in
     let n = marked_at c.args.out.now c.args.t.0 (passes c.marked.ensures c.if-not-marked.false-raw) in
-    record { may_search = c.requires.may_search; u_lt_types = rw e (leader_type (chain_graph c.args.words.now) c.args.out.now c.args.t.0 (c.requires.right c.args.t.0 (rw e at c.requires.may_search.low)) c.leader.ensures n) }
+    rw e (leader_type (chain_graph c.args.links.now.words.now) c.args.out.now c.args.t.0 (c.requires.right c.args.t.0 (rw e at c.requires.may_search.low)) c.leader.ensures n)
 
-pub returns : goal.returns
-returns c =
+pub returns-clause-word_is : goal.returns-clause-word_is
+returns-clause-word_is c =
     let e = (facts c.requires.may_search.help).types in
     let n = marked_at c.args.out.now c.args.t.0 (passes c.marked.ensures c.if-not-marked.false-raw) in
-    record { word_is = distance_level (chain_graph c.args.words.now) c.args.out.now c.args.t.0 (c.requires.right c.args.t.0 (rw e at c.requires.may_search.low)) c.leader.ensures n (eqb-false _ _ (sym c.leads.ensures ∙ c.if-leads.false)) c.level.ensures.level_is; cleared = c.level.ensures.cleared }
+    distance_level (chain_graph c.args.links.now.words.now) c.args.out.now c.args.t.0 (c.requires.right c.args.t.0 (rw e at c.requires.may_search.low)) c.leader.ensures n (eqb-false _ _ (sym c.leads.ensures ∙ c.if-leads.false)) c.level.ensures.level_is

@@ -1,5 +1,3 @@
-use borrow.Author.Rules.{rules}
-use borrow.Author.Count.{below_more}
 use native.Mathlib.Omega.{arith}
 use mathlib.Core.Path.{sym, ◌∙◌}
 use Rattle.names.proofs.BoolLaws.{passes, fails}
@@ -9,18 +7,11 @@ use Rattle.producer.proofs.measure.lowest_back.Goals as goal
 pub returns-then-not-reaches_back : goal.returns-then-not-reaches_back
 returns-then-not-reaches_back c = not_back (fails c.reaches_back.ensures c.if-not-reaches_back.true-raw)
 
-pub loop-u-init : goal.loop-u-init
-loop-u-init c = (search rules, λ s l. absurd (omega arith))
-
 pub returns-then-reaches_back : goal.returns-then-reaches_back
 returns-then-reaches_back c =
-    first {u = c.loop-u.u} (omega arith) (passes c.reaches_back.ensures c.if-not-reaches_back.false-raw) (sym c.reaches_back-in-loop-u.ensures ∙ c.if-reaches_back.true) c.loop-u.invariant.1
-
-pub loop-u-preserved : goal.loop-u-preserved
-loop-u-preserved c =
-    (search rules, below_more _ c.loop-u.u c.loop-u.invariant.1 (sym c.reaches_back-in-loop-u.ensures ∙ c.if-reaches_back.false))
+    first {u = c.loop-u.u} (omega arith) (passes c.reaches_back.ensures c.if-not-reaches_back.false-raw) (sym c.reaches_back-in-loop-u.ensures ∙ c.if-reaches_back.true) c.loop-u.invariant
 
 pub returns : goal.returns
 returns c =
     let k = passes c.reaches_back.ensures c.if-not-reaches_back.false-raw in
-    first {u = c.args.t.0} (omega arith) k k (λ s b. c.loop-u.invariant.1 s (omega arith))
+    first {u = c.args.t.0} (omega arith) k k (λ s b. c.loop-u.invariant s (omega arith))

@@ -2,27 +2,24 @@
 use native.Mathlib.Omega.{arith}
 use Rattle.links.specs.Fields.{chain_graph}
 use Rattle.searching.proofs.Lookups.{facts}
-use Rattle.producer.proofs.PassLaws.{others_open, others_some, others_closed, cleared_after}
+use Rattle.producer.proofs.PassLaws.{others_open, others_some, others_closed}
 use Rattle.producer.proofs.measure.number_of.Goals as goal
 
-pub bounds-work-t : goal.bounds-work-t
-bounds-work-t c = omega (arith, c.requires.low, c.requires.help.types, c.requires.clear.room, c.search-n.ensures.searched.size)
-
-pub returns-then-back-eq0 : goal.returns-then-back-eq0
-returns-then-back-eq0 c =
+pub returns-then-back-eq0-clause-number_is : goal.returns-then-back-eq0-clause-number_is
+returns-then-back-eq0-clause-number_is c =
     let e = (facts c.requires.help).types in
     let b = rw e at c.requires.low in
-    record { number_is = others_open (chain_graph c.args.words.now) c.args.t.0 c.search-n.result (λ r. (c.search-n.ensures.searched.marks c.args.t.0 b).1 r c.if-back-eq0.true) c.search-n.ensures.searched.count; cleared = cleared_after (chain_graph c.args.words.now) c.search-n.ensures.searched (rw e at c.clear_search.ensures) }
+    others_open (chain_graph c.args.links.now.words.now) c.args.t.0 c.search-n.result (λ r. (c.search-n.ensures.searched.marks c.args.t.0 b).1 r c.if-back-eq0.true) c.search-n.ensures.searched.count
 
 pub overflow_sub-result : goal.overflow_sub-result
 overflow_sub-result c =
     let e = (facts c.requires.help).types in
     let b = rw e at c.requires.low in
-    let k = others_some (chain_graph c.args.words.now) c.args.t.0 c.search-n.result b ((c.search-n.ensures.searched.marks c.args.t.0 b).0 c.if-back-eq0.false) c.search-n.ensures.searched.count in
+    let k = others_some (chain_graph c.args.links.now.words.now) c.args.t.0 c.search-n.result b ((c.search-n.ensures.searched.marks c.args.t.0 b).0 c.if-back-eq0.false) c.search-n.ensures.searched.count in
     omega arith
 
-pub returns : goal.returns
-returns c =
+pub returns-clause-number_is : goal.returns-clause-number_is
+returns-clause-number_is c =
     let e = (facts c.requires.help).types in
     let b = rw e at c.requires.low in
-    record { number_is = others_closed (chain_graph c.args.words.now) c.args.t.0 c.search-n.result b ((c.search-n.ensures.searched.marks c.args.t.0 b).0 c.if-back-eq0.false) c.search-n.ensures.searched.count; cleared = cleared_after (chain_graph c.args.words.now) c.search-n.ensures.searched (rw e at c.clear_search.ensures) }
+    others_closed (chain_graph c.args.links.now.words.now) c.args.t.0 c.search-n.result b ((c.search-n.ensures.searched.marks c.args.t.0 b).0 c.if-back-eq0.false) c.search-n.ensures.searched.count

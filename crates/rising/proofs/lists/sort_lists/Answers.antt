@@ -1,12 +1,17 @@
--- The edges are written to the first half and the members to the second.
-use borrow.Author.Rules.{rules}
-use Rattle.rising.proofs.SortedLaws.{room_left, both_sorted}
+-- The edges are the front, and the members the rest.
+use Rattle.std.proofs.Common.{◌≡◌, length, arith}
+use Rattle.std.proofs.Math.Seq.{take_at, drop_at, take_all}
+use Rattle.table.specs.Layout.{most_listed}
 use Rattle.rising.proofs.lists.sort_lists.Goals as goal
-
-pub sort_members-requires : goal.sort_members-requires
-sort_members-requires c =
-    record { sound_rows = c.requires.sound_rows; members_apart = c.requires.edges_apart.1; most_listed_in_bounds = room_left c.args.lists.now c.sort_edges.new.sorted c.requires.lists_len (search rules) }
 
 pub returns : goal.returns
 returns c =
-    both_sorted c.args.lists.now c.sort_edges.new.sorted c.requires.lists_len (search rules) c.sort_members.new.sorted (search rules) c.requires.sound_rows c.sort_edges.ensures c.sort_members.ensures
+    let edges = c.sort_edges.new.sorted in
+    let members = c.sort_members.new.sorted in
+    let front : length edges ≡ most_listed = omega arith in
+    record {
+      rows = c.requires.sound_rows;
+      size = omega arith;
+      edges = rw (take_at edges members most_listed front) c.sort_edges.ensures;
+      members = rw (drop_at edges members most_listed front, take_all most_listed members (omega arith)) c.sort_members.ensures;
+    }

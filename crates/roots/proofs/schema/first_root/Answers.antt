@@ -1,26 +1,17 @@
-use native.Mathlib.Omega.{arith}
-use mathlib.Core.Path.{◌≡◌, refl, sym, ◌∙◌}
-use Prim.Native.Nat.{ℕ, ◌-◌}
-use Rattle.rows.proofs.FindLaws.{find_here, find_next, find_end}
+-- The walk over the operations stops at the first with the name.
+use mathlib.Core.Path.{◌≡◌, ◌∙◌}
+use mathlib.Core.Bool.{Bool, true, false}
+use Prim.Native.Nat.{ℕ}
+use lib.Dec.{eqb}
+use borrow.Author.Rules.{rules}
+use Rattle.std.proofs.lemmas.Iterator.{first_from_Range}
+use Rattle.table.specs.Layout.{root}
 use Rattle.roots.specs.Schema.{first_root}
+use Rattle.rows.proofs.FindLaws.{found_or_end}
 use Rattle.roots.proofs.schema.first_root.Goals as goal
 
-zero_less : (n : ℕ) → n - 0 ≡ n
-zero_less n = omega arith
-
-pub loop-first-init : goal.loop-first-init
-unfolding first_root
-loop-first-init c = (omega arith, rw (zero_less c.args.operation) refl)
-
-pub returns-then-same : goal.returns-then-same
-returns-then-same c =
-    sym (c.loop-first.invariant.1 ∙ find_here _ _ _ c.loop-first-test.true (rw c.root_name.ensures at (sym c.same.ensures ∙ c.if-same.true)))
-
-pub loop-first-preserved : goal.loop-first-preserved
-loop-first-preserved c =
-    (omega arith, c.loop-first.invariant.1 ∙ find_next _ _ _ c.loop-first-test.true (rw c.root_name.ensures at (sym c.same.ensures ∙ c.if-same.false)))
-
 pub returns : goal.returns
+unfolding first_root
 returns c =
-    let e : c.loop-first.first ≡ c.args.operation = omega arith in
-    sym (c.loop-first.invariant.1 ∙ find_end _ _ _ c.loop-first-test.false ∙ e)
+    let p : ℕ → Bool = λ i. eqb (root c.args.table.now.words.now i) c.args.name.0 in
+    c.unwrap_or.ensures ∙ found_or_end p _ _ (first_from_Range _ _ _ _ (λ i. p i ≡ true) (λ i. p i ≡ false) c.find.ensures.ran (λ x q k. search rules) (λ x q k. search rules))

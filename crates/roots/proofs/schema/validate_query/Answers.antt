@@ -5,12 +5,12 @@ use Rattle.records.proofs.Records.{emit_none}
 use Rattle.roots.specs.Schema.{query_record}
 use Rattle.roots.proofs.schema.validate_query.Goals as goal
 
-pub returns-then-is_none : goal.returns-then-is_none
+pub returns-then-eq : goal.returns-then-eq
 unfolding query_record
-returns-then-is_none c =
-    record { emitted = simp (rw c.root_name.ensures at (sym c.is_none.ensures ∙ c.if-is_none.true), ← c.query_root_operation_type.ensures) c.put.ensures.emitted; upper_bound = c.put.ensures.upper_bound }
+returns-then-eq c =
+    record { emitted = simp (rw c.root.ensures at (sym c.eq.ensures ∙ c.if-eq.true), ← c.query_root_operation_type.ensures) c.put.ensures.emitted; upper_bound = c.put.ensures.upper_bound }
 
 pub returns : goal.returns
 unfolding query_record
 returns c =
-    record { emitted = simp (rw c.root_name.ensures at (sym c.is_none.ensures ∙ c.if-is_none.false)) (emit_none _); upper_bound = omega arith }
+    record { emitted = simp (rw c.root.ensures at (sym c.eq.ensures ∙ c.if-eq.false)) (emit_none _); upper_bound = omega arith }

@@ -1,30 +1,22 @@
 -- `validate_root_type`: each branch lists what the definition lists there, by the tests that led to it.
-use native.Mathlib.Omega.{arith}
-use mathlib.Core.Path.{sym, ◌∙◌}
-use borrow.Author.Tests.{eq-eqb, ne_eqb}
+use Rattle.table.specs.declared.kinds.Kind.TheVariants.{Object}
+use Rattle.table.proofs.AnswerLaws.{kind_is}
 use Rattle.records.proofs.Records.{emit_none}
-use Rattle.rows.proofs.FoundTypes.{named, unnamed, kind_named_lem}
 use Rattle.roots.specs.Schema.{root_type}
 use Rattle.roots.proofs.schema.validate_root_type.Goals as goal
 
-pub type_kind-requires : goal.type_kind-requires
-type_kind-requires c =
-    record { laid = c.requires.rows.laid; t_lt_types = (named _ _ c.requires.rows.laid _ _ c.look_up.ensures _ c.in-At.is).below }
-
-pub returns-then-type_kind-eq-OBJECT : goal.returns-then-type_kind-eq-OBJECT
+pub returns-in_default-clause-emitted : goal.returns-in_default-clause-emitted
 unfolding root_type
-returns-then-type_kind-eq-OBJECT c =
-    let m = named _ _ c.requires.rows.laid _ _ c.look_up.ensures _ c.in-At.is in
-    record { emitted = simp (m.there, eq-eqb _ _ (sym (kind_named_lem _ _ _ _ _ m c.type_kind.ensures) ∙ c.if-type_kind-eq-OBJECT.true)) (emit_none _); upper_bound = omega arith }
+returns-in_default-clause-emitted c = simp (c.in_default.ensures, ← c.undefined_definition.ensures) c.put.ensures.emitted
 
-pub returns-in-Nothing : goal.returns-in-Nothing
+pub returns-then-eq-clause-emitted : goal.returns-then-eq-clause-emitted
 unfolding root_type
-returns-in-Nothing c =
-    let m = unnamed _ _ c.requires.rows.laid _ _ c.look_up.ensures c.in-Nothing.is in
-    record { emitted = simp (m, ← c.undefined_definition.ensures) c.put.ensures.emitted; upper_bound = c.put.ensures.upper_bound }
+returns-then-eq-clause-emitted c =
+    let (here, kind) = c.in-Some.ensures in
+    simp (here, kind_is _ Object _ _ _ kind c.eq.ensures c.if-eq.true) (emit_none _)
 
-pub returns-else-type_kind-eq-OBJECT : goal.returns-else-type_kind-eq-OBJECT
+pub returns-clause-emitted : goal.returns-clause-emitted
 unfolding root_type
-returns-else-type_kind-eq-OBJECT c =
-    let m = named _ _ c.requires.rows.laid _ _ c.look_up.ensures _ c.in-At.is in
-    record { emitted = simp (m.there, ne_eqb _ _ (rw (kind_named_lem _ _ _ _ _ m c.type_kind.ensures) at c.if-type_kind-eq-OBJECT.false), ← c.root_operation_object_type.ensures) c.put-in-At.ensures.emitted; upper_bound = c.put-in-At.ensures.upper_bound }
+returns-clause-emitted c =
+    let (here, kind) = c.in-Some.ensures in
+    simp (here, kind_is _ Object _ _ _ kind c.eq.ensures c.if-eq.false, ← c.root_operation_object_type.ensures) c.put-2.ensures.emitted

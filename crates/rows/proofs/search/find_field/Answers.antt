@@ -1,32 +1,15 @@
-use native.Mathlib.Omega.{arith}
-use mathlib.Core.Path.{◌≡◌, refl, sym, ◌∙◌}
-use Prim.Native.Nat.{◌-◌}
-use Rattle.rows.specs.Parts.{field_named, field_rows}
-use Rattle.rows.proofs.FindLaws.{find_here, find_next, find_end}
-use Rattle.rows.proofs.FoundRows.{found_row_lem, found_no_row}
+-- The walk over the range stops at the first row of the name.
+use mathlib.Core.Path.{◌≡◌}
+use mathlib.Core.Bool.{Bool, true, false}
 use Prim.Native.Nat.{ℕ}
+use Rattle.std.proofs.Common.{rules, eqb}
+use Rattle.std.proofs.lemmas.Iterator.{first_from_Range}
+use Rattle.rows.specs.Parts.{field_named, field_name_in}
+use Rattle.rows.proofs.FindLaws.{found_first}
 use Rattle.rows.proofs.search.find_field.Goals as goal
 
-zero_less : (n : ℕ) → n - 0 ≡ n
-zero_less n = omega arith
-
-pub loop-i-init : goal.loop-i-init
-unfolding field_named
-loop-i-init c = (omega arith, c.field_rows-rows.ensures, rw (zero_less (field_rows c.args.fields.now)) refl)
-
-pub returns-then-same : goal.returns-then-same
-returns-then-same c =
-    let t = rw c.loop-i.invariant.1 at c.loop-i-test.true in
-    let e = c.loop-i.invariant.2 ∙ find_here _ _ _ t (rw c.field_name.ensures at (sym c.same.ensures ∙ c.if-same.true)) in
-    sym (rw e (found_row_lem _ _ t))
-
-pub loop-i-preserved : goal.loop-i-preserved
-loop-i-preserved c =
-    let t = rw c.loop-i.invariant.1 at c.loop-i-test.true in
-    (omega arith, c.loop-i.invariant.1, c.loop-i.invariant.2 ∙ find_next _ _ _ t (rw c.field_name.ensures at (sym c.same.ensures ∙ c.if-same.false)))
-
 pub returns : goal.returns
+unfolding field_named
 returns c =
-    let t = rw c.loop-i.invariant.1 at c.loop-i-test.false in
-    let e = c.loop-i.invariant.2 ∙ find_end _ _ _ t in
-    sym (rw e (found_no_row _ _ t))
+    let p : ℕ → Bool = λ i. eqb (field_name_in c.args.fields.now i) c.args.name.0 in
+    rw c.field_rows.ensures at (found_first p _ _ (first_from_Range _ _ _ _ (λ i. p i ≡ true) (λ i. p i ≡ false) c.find.ensures.ran (λ x q k. search rules) (λ x q k. search rules)))

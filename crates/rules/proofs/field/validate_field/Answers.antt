@@ -1,17 +1,14 @@
 -- `validate_field`: the second list is written to the tail behind the first.
-use borrow.Author.Rules.{rules}
 use native.Mathlib.Omega.{arith}
 use Rattle.records.proofs.Records.{emit_seq}
 use Rattle.rules.specs.Field.{field_record}
 use Rattle.rules.proofs.field.validate_field.Goals as goal
 
-pub validate_field_definition-n-requires : goal.validate_field_definition-n-requires
-validate_field_definition-n-requires c =
-    record { legible = c.requires.legible; t_lt_types = (search rules, rw c.field_name.ensures (c.requires.field_part.names _ (search rules)), search rules) }
+pub validate_field_definition-n-requires-clause-name_lt_names : goal.validate_field_definition-n-requires-clause-name_lt_names
+validate_field_definition-n-requires-clause-name_lt_names c = rw c.field_name.ensures (c.requires.field_part.names _ c.requires.i_bound)
 
 pub validate_output_type-requires : goal.validate_output_type-requires
-validate_output_type-requires c =
-    record { legible = c.requires.legible; name_lt_names = rw c.field_type.ensures (c.requires.field_part.types _ (search rules)) }
+validate_output_type-requires c = rw c.field_type.ensures (c.requires.field_part.types _ c.requires.i_bound)
 
 pub returns : goal.returns
 unfolding field_record

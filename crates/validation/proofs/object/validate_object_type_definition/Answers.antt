@@ -4,13 +4,12 @@ use Rattle.records.proofs.Records.{emit_seq}
 use Rattle.validation.specs.Object.{object_records}
 use Rattle.validation.proofs.object.validate_object_type_definition.Goals as goal
 
-pub validate_fields-n-requires : goal.validate_fields-n-requires
-validate_fields-n-requires c =
-    record { legible = c.requires.prepared.legible; t_lt_types = c.requires.t_lt_types; field_part = rw c.fields_start-fields_first.ensures c.fields_of-fields.ensures.field_part }
+pub validate_fields-n-requires-clause-field_part : goal.validate_fields-n-requires-clause-field_part
+validate_fields-n-requires-clause-field_part c = rw c.fields_start-fields_first.ensures c.fields_of-fields.ensures.field_part
 
 pub validate_edges-requires : goal.validate_edges-requires
 validate_edges-requires c =
-    record { findable = record { indexed = record { rows = c.requires.prepared.legible.readable.sound; types = c.requires.prepared.legible.types }; sorted = c.requires.prepared.sorted }; own_edges = record { part = rw c.edges_start-edges_first.ensures c.edges_of-edges.ensures.name_part; all = c.edges_of-edges.ensures.result_value; below = c.requires.t_lt_types }; field_part = rw c.fields_start-fields_first.ensures c.fields_of-fields.ensures.field_part }
+    record { own_edges = record { part = rw c.edges_start-edges_first.ensures c.edges_of-edges.ensures.name_part; all = c.edges_of-edges.ensures.result_value; below = c.requires }; field_part = rw c.fields_start-fields_first.ensures c.fields_of-fields.ensures.field_part }
 
 pub returns : goal.returns
 unfolding object_records

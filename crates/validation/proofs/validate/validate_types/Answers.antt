@@ -1,19 +1,18 @@
-use borrow.Author.Rules.{rules}
+-- Each type lists its records.
 use native.Mathlib.Omega.{arith}
-use mathlib.Core.Path.{◌≡◌, refl}
+use borrow.Author.Rules.{rules}
 use Rattle.rows.proofs.PartLaws.{type_count_lem}
-use Rattle.records.proofs.Records.{each_zero, each_more, emit_none, emit_seq}
-use Rattle.validation.specs.Validation.{type_records}
+use Rattle.validation.specs.Bounds.{most_of_type}
+use Rattle.validation.specs.Validation.{type_records, counts_of}
 use Rattle.validation.proofs.validate.validate_types.Goals as goal
 
-pub loop-t-init : goal.loop-t-init
-loop-t-init c = (omega arith, refl, omega arith, rw each_zero (emit_none _))
-
-pub loop-t-preserved : goal.loop-t-preserved
+pub returns-clause-emitted : goal.returns-clause-emitted
 unfolding type_records
-loop-t-preserved c =
-    (search rules, c.loop-t.invariant.1, search rules, rw each_more (emit_seq _ _ _ _ _ _ _ _ c.loop-t.invariant.3 c.used-at.ensures c.validate_type-n.ensures.emitted))
+returns-clause-emitted c =
+    rw (type_count_lem _ _ c.args.schema.now.table.findable.indexed.rows.laid) at
+    (c.put_each.ensures.emitted (type_records c.args.schema.now.text.now c.args.schema.now.table.words.now (counts_of c.args.cycles.now)) (λ i o r u h p. search rules))
 
-pub returns : goal.returns
-returns c =
-    let e : c.loop-t.t ≡ c.args.l.types = omega arith in record { emitted = rw (e, type_count_lem _ _ c.requires.prepared.legible.readable.sound.laid) at c.loop-t.invariant.3; upper_bound = omega (arith, c.requires.prepared.legible.readable.sound.laid.types_most) }
+pub returns-clause-upper_bound : goal.returns-clause-upper_bound
+returns-clause-upper_bound c =
+    let b = c.put_each.ensures.upper_bound most_of_type (λ i o r u h p. search rules) in
+    omega (arith, c.args.schema.now.table.findable.indexed.rows.laid.types_most)

@@ -1,7 +1,6 @@
 -- Each column lies within the table; the answer joins what the tests of the columns say.
 use native.Mathlib.Omega.{arith}
 use Rattle.table.proofs.LayoutLaws.{inside_field, inside_type}
-use Rattle.wellformed.specs.WellFormed.{all_ends_good}
 use Rattle.wellformed.proofs.refusal5.all_ends_good.Goals as goal
 
 pub ends_good-requires : goal.ends_good-requires
@@ -18,8 +17,3 @@ ends_good-requires-4 c = rw c.values_ends.ensures (inside_type c.requires 6 (ome
 
 pub ends_good-requires-5 : goal.ends_good-requires-5
 ends_good-requires-5 c = rw c.arguments_ends.ensures (inside_field c.requires 3 (omega arith))
-
-pub returns : goal.returns
-unfolding all_ends_good
-returns c =
-    simp (c.ends_good.ensures, c.edges_ends.ensures, c.ends_good-2.ensures, c.fields_ends.ensures, c.ends_good-3.ensures, c.members_ends.ensures, c.ends_good-4.ensures, c.values_ends.ensures, c.ends_good-5.ensures, c.arguments_ends.ensures)

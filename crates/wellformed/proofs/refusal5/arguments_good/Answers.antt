@@ -1,7 +1,6 @@
 -- Each column lies within the table; the answer joins what the tests of the columns say.
 use native.Mathlib.Omega.{arith}
 use Rattle.table.proofs.LayoutLaws.{inside_argument}
-use Rattle.wellformed.specs.WellFormed.{arguments_good}
 use Rattle.wellformed.proofs.refusal5.arguments_good.Goals as goal
 
 pub all_below-requires : goal.all_below-requires
@@ -15,8 +14,3 @@ wraps_good-requires c = rw c.argument_wraps.ensures (inside_argument c.requires 
 
 pub all_below-requires-3 : goal.all_below-requires-3
 all_below-requires-3 c = rw c.argument_defaults.ensures (inside_argument c.requires 3 (omega arith))
-
-pub returns : goal.returns
-unfolding arguments_good
-returns c =
-    simp (c.all_below.ensures, c.argument_names.ensures, c.all_below-2.ensures, c.argument_types.ensures, c.wraps_good.ensures, c.argument_wraps.ensures, c.all_below-3.ensures, c.argument_defaults.ensures)

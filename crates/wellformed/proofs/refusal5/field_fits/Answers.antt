@@ -1,7 +1,6 @@
 -- A run and a default are read; the answer is the definition with them put in.
 use native.Mathlib.Omega.{arith}
 use Rattle.table.proofs.LayoutLaws.{inside_field}
-use Rattle.wellformed.specs.WellFormed.{field_fits}
 use Rattle.wellformed.proofs.refusal5.field_fits.Goals as goal
 
 pub is_empty-requires : goal.is_empty-requires
@@ -11,8 +10,3 @@ is_empty-requires c =
 pub word_at-requires : goal.word_at-requires
 word_at-requires c =
     rw c.field_defaults.ensures record { inside = inside_field c.requires.laid 4 (omega arith); i_lt_rows = c.requires.f_lt_fields }
-
-pub returns : goal.returns
-unfolding field_fits
-returns c =
-    simp (c.is_composite.ensures, c.is_input_object.ensures, c.is_empty.ensures, c.arguments_ends.ensures, c.word_at.ensures, c.field_defaults.ensures)

@@ -1,7 +1,6 @@
 -- Each column lies within the table; the answer joins what the tests of the columns say.
 use native.Mathlib.Omega.{arith}
 use Rattle.table.proofs.LayoutLaws.{inside_field}
-use Rattle.wellformed.specs.WellFormed.{fields_good}
 use Rattle.wellformed.proofs.refusal5.fields_good.Goals as goal
 
 pub all_below-requires : goal.all_below-requires
@@ -15,8 +14,3 @@ wraps_good-requires c = rw c.field_wraps.ensures (inside_field c.requires 2 (ome
 
 pub all_below-requires-3 : goal.all_below-requires-3
 all_below-requires-3 c = rw c.field_defaults.ensures (inside_field c.requires 4 (omega arith))
-
-pub returns : goal.returns
-unfolding fields_good
-returns c =
-    simp (c.all_below.ensures, c.field_names.ensures, c.all_below-2.ensures, c.field_types.ensures, c.wraps_good.ensures, c.field_wraps.ensures, c.all_below-3.ensures, c.field_defaults.ensures)

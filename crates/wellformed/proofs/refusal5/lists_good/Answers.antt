@@ -1,6 +1,5 @@
 -- Each column lies within the table; the answer joins what the tests of the columns say.
 use Rattle.table.proofs.LayoutLaws.{inside_edges, inside_members, inside_values}
-use Rattle.wellformed.specs.WellFormed.{lists_good}
 use Rattle.wellformed.proofs.refusal5.lists_good.Goals as goal
 
 pub all_below-requires : goal.all_below-requires
@@ -11,8 +10,3 @@ all_below-requires-2 c = rw c.member_names.ensures (inside_members c.requires)
 
 pub all_below-requires-3 : goal.all_below-requires-3
 all_below-requires-3 c = rw c.value_names.ensures (inside_values c.requires)
-
-pub returns : goal.returns
-unfolding lists_good
-returns c =
-    simp (c.all_below.ensures, c.edge_names.ensures, c.all_below-2.ensures, c.member_names.ensures, c.all_below-3.ensures, c.value_names.ensures)

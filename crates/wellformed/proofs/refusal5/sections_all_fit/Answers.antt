@@ -1,24 +1,8 @@
-use Rattle.names.proofs.BoolLaws.{passes, fails}
-use native.Mathlib.Omega.{arith}
-use mathlib.Core.Path.{◌≡◌, sym}
-use Rattle.names.proofs.CountLaws.{every_none, every_more, every_fails}
-use Rattle.wellformed.specs.WellFormed.{sections_all_fit}
+use Rattle.std.proofs.Common.{rules, tests, zero-le}
+use Rattle.names.proofs.RangeLaws.{every_all}
+use Rattle.wellformed.specs.WellFormed.{sections_fit, sections_all_fit}
 use Rattle.wellformed.proofs.refusal5.sections_all_fit.Goals as goal
-
-pub loop-t-init : goal.loop-t-init
-loop-t-init c = (omega arith, every_none _ 0)
-
-pub returns-then-not-sections_fit : goal.returns-then-not-sections_fit
-unfolding sections_all_fit
-returns-then-not-sections_fit c =
-    sym (every_fails _ 0 _ _ (omega arith) c.loop-t-test.true (fails c.sections_fit.ensures c.if-not-sections_fit.true-raw))
-
-pub loop-t-preserved : goal.loop-t-preserved
-loop-t-preserved c =
-    (omega arith, every_more _ 0 _ (omega arith) c.loop-t.invariant.1 (passes c.sections_fit.ensures c.if-not-sections_fit.false-raw))
 
 pub returns : goal.returns
 unfolding sections_all_fit
-returns c =
-    let e : c.loop-t.t ≡ c.args.l.types = omega arith in
-    sym (rw e at c.loop-t.invariant.1)
+returns c = every_all (sections_fit c.args.words.now c.args.l) _ _ _ _ _ zero-le c.all.ensures.ran (λ x b q k. search (rules, tests))

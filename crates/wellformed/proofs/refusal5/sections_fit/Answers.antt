@@ -1,7 +1,6 @@
 -- Four runs and a kind are read; the answer is the definition with them put in.
 use native.Mathlib.Omega.{arith}
 use Rattle.table.proofs.LayoutLaws.{inside_type}
-use Rattle.wellformed.specs.WellFormed.{sections_fit}
 use Rattle.wellformed.proofs.refusal5.sections_fit.Goals as goal
 
 pub word_at-k-requires : goal.word_at-k-requires
@@ -23,8 +22,3 @@ is_empty-requires-3 c =
 pub is_empty-requires-4 : goal.is_empty-requires-4
 is_empty-requires-4 c =
     rw (c.values_ends.ensures, c.index-row.ensures) record { inside = inside_type c.requires.laid 6 (omega arith); i_lt_rows = c.requires.t_lt_types }
-
-pub returns : goal.returns
-unfolding sections_fit
-returns c =
-    simp (c.is_empty.ensures, c.edges_ends.ensures, c.is_empty-2.ensures, c.fields_ends.ensures, c.is_empty-3.ensures, c.members_ends.ensures, c.is_empty-4.ensures, c.values_ends.ensures, c.is_composite-composite.ensures, c.is_input_object.ensures, c.word_at-k.ensures, c.type_kinds.ensures, c.index-row.ensures)

@@ -3,7 +3,6 @@ use native.Mathlib.Omega.{arith}
 use Rattle.table.proofs.LayoutLaws.{in_range, inside_edges, inside_field, inside_members, inside_values, inside_type}
 use Rattle.wellformed.proofs.EndLaws.{edges_ends_lem, fields_ends_lem, members_ends_lem, values_ends_lem, rows_ends}
 use Rattle.wellformed.proofs.WordLaws.{edge_names_below, field_names_below, member_names_below, value_names_below}
-use Rattle.wellformed.specs.WellFormed.{rows_distinct}
 use Rattle.wellformed.proofs.refusal6.rows_distinct.Goals as goal
 
 pub run_distinct-requires : goal.run_distinct-requires
@@ -24,8 +23,3 @@ values_ends-requires c = in_range c.requires.laid
 pub run_distinct-requires-4 : goal.run_distinct-requires-4
 run_distinct-requires-4 c =
     rw (c.values_ends.ensures, c.value_names.ensures) record { inside = inside_values c.requires.laid; inside_2 = inside_type c.requires.laid 6 (omega arith); t_lt_rows = c.requires.t_lt_types; rows_value = values_ends_lem _ _ (rows_ends _ _ c.requires.l_value); all_below = value_names_below c.requires.laid c.requires.l_value }
-
-pub returns : goal.returns
-unfolding rows_distinct
-returns c =
-    simp (c.run_distinct.ensures, c.edges_ends.ensures, c.edge_names.ensures, c.run_distinct-2.ensures, c.fields_ends.ensures, c.field_names.ensures, c.run_distinct-3.ensures, c.members_ends.ensures, c.member_names.ensures, c.run_distinct-4.ensures, c.values_ends.ensures, c.value_names.ensures)

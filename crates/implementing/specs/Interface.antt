@@ -24,10 +24,14 @@ unfoldable pub undefined_edge : (w : List ℕ) (t edgesFirst : ℕ) (edges : Lis
 undefined_edge w t edgesFirst edges i =
     when (not (is_interface w (edge_name_in edges i))) (undefined_definition t (edge_name_in edges i) at_edge (edgesFirst + i) ∷ [])
 
--- what f lists for the row and the interface of each defined edge
+-- what f lists for the row and the interface of an edge i, where it is defined
+abbrev pub defined_edge : (f : ℕ → ℕ → List Record) (w : List ℕ) (edgesFirst : ℕ) (edges : List ℕ) (i : ℕ) → List Record
+defined_edge f w edgesFirst edges i =
+    when (is_interface w (edge_name_in edges i)) (f (edgesFirst + i) (type_named w (edge_name_in edges i)))
+
+-- and for each
 unfoldable pub defined_edges : (f : ℕ → ℕ → List Record) (w : List ℕ) (edgesFirst : ℕ) (edges : List ℕ) → List Record
-defined_edges f w edgesFirst edges =
-    each (λ i. when (is_interface w (edge_name_in edges i)) (f (edgesFirst + i) (type_named w (edge_name_in edges i)))) (edge_rows edges)
+defined_edges f w edgesFirst edges = each (defined_edge f w edgesFirst edges) (edge_rows edges)
 
 -- 8 for an edge i of the interface that the type lacks
 unfoldable pub transitive_edge : (t : ℕ) (edges : List ℕ) (viaEdge demandedFirst : ℕ) (demanded : List ℕ) (i : ℕ) → List Record

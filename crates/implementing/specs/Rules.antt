@@ -20,6 +20,10 @@ module _ (post : ℕ → TypeRow → MutBor (List ℕ) → ℕ → MutBor (List 
   abbrev pub ListsDefined : (ℕ → ℕ → List Record) → Type 0
   ListsDefined list = (e : ℕ) (t : TypeRow) (o : MutBor (List ℕ)) (r : ℕ) (u : MutBor (List ℕ)) → t.0 < types → post e t o r u → Emitted (list e t.0) o.now u.now r
 
-  -- and no more than so many
+  -- whatever that list is, what f makes of it is then emitted
+  abbrev pub EmitsDefined : ((ℕ → ℕ → List Record) → List Record) → List ℕ → List ℕ → ℕ → Type 0
+  EmitsDefined f before after n = (list : ℕ → ℕ → List Record) → ListsDefined list → Emitted (f list) before after n
+
+  -- and it lists no more than so many
   abbrev pub AtMostDefined : ℕ → Type 0
   AtMostDefined most = (e : ℕ) (t : TypeRow) (o : MutBor (List ℕ)) (r : ℕ) (u : MutBor (List ℕ)) → t.0 < types → post e t o r u → r ≤ most

@@ -1,14 +1,12 @@
 // Edges: 3; 8; 9; 10; 11 or 12 per interface argument, then 13 (the Rust's interface.rs). 8 to 13 run over defined edges only, each over all
 // edges, so the loop over them is handed what a rule lists for one.
-ghost use Rattle.std.specs.Prelude.{◌+◌, ◌*◌, ◌≤◌, ◌<◌, ℕ, List};
-ghost use Rattle.records.specs.declared.Record.{Record as Row};
-ghost use Rattle.records.specs.Records.{Emitted, each, when};
-ghost use Rattle.rows.specs.Parts.{edge_rows, edge_name_in};
-ghost use Rattle.rows.specs.Types.{is_interface, type_named};
+ghost use Rattle.std.specs.Prelude.{◌*◌, ◌≤◌, ◌<◌};
+ghost use Rattle.records.specs.Records.{Emitted, each};
+ghost use Rattle.rows.specs.Parts.{edge_rows};
 ghost use Rattle.rows.specs.Readable.{FieldPart};
-ghost use Rattle.implementing.specs.Interface.{undefined_edge, transitive_edges, implements_records, implemented_fields, edges_records, defined_edges};
+ghost use Rattle.implementing.specs.Interface.{undefined_edge, transitive_edges, implements_records, implemented_fields, edges_records, defined_edge, defined_edges};
 ghost use Rattle.matching.specs.Own.{OwnEdges, OwnFields};
-ghost use Rattle.implementing.specs.Rules.{Callable, ListsDefined, AtMostDefined};
+ghost use Rattle.implementing.specs.Rules.{Callable, EmitsDefined, AtMostDefined};
 ghost use Rattle.matching.specs.Bounds.{most_of_interface};
 ghost use Rattle.implementing.specs.Bounds.{most_of_edges};
 
@@ -36,7 +34,7 @@ fn validate_defined_edge<F: Fn(u32, TypeRow, &mut [u32]) -> usize>(
     requires i_bound { i < edge_rows own.now.edges.now }
     requires callable { Callable (F.pre rule.now) own.now.table.now.layout.types }
     requires bounded { AtMostDefined (F.post rule.now) own.now.table.now.layout.types most_of_interface }
-    ensures emitted { (list : ℕ → ℕ → List Row) → ListsDefined (F.post rule.now) own.now.table.now.layout.types list → Emitted (when (is_interface own.now.table.now.words.now (edge_name_in own.now.edges.now i)) (list (own.now.edges_first + i) (type_named own.now.table.now.words.now (edge_name_in own.now.edges.now i)))) out.old out.new result }
+    ensures emitted { EmitsDefined (F.post rule.now) own.now.table.now.layout.types (λ list. defined_edge list own.now.table.now.words.now own.now.edges_first own.now.edges.now i) out.old out.new result }
     ensures upper_bound { result ≤ most_of_interface }
 {
     let Some(interface) = find_interface(own.table, edge_name(own.edges, i)) else {
@@ -53,7 +51,7 @@ fn validate_defined_edges<F: Fn(u32, TypeRow, &mut [u32]) -> usize>(
 ) -> usize
     requires callable { Callable (F.pre rule) own.now.table.now.layout.types }
     requires bounded { AtMostDefined (F.post rule) own.now.table.now.layout.types most_of_interface }
-    ensures emitted { (list : ℕ → ℕ → List Row) → ListsDefined (F.post rule) own.now.table.now.layout.types list → Emitted (defined_edges list own.now.table.now.words.now own.now.edges_first own.now.edges.now) out.old out.new result }
+    ensures emitted { EmitsDefined (F.post rule) own.now.table.now.layout.types (λ list. defined_edges list own.now.table.now.words.now own.now.edges_first own.now.edges.now) out.old out.new result }
     ensures upper_bound { result ≤ most_of_edges }
 {
     put_each(

@@ -17,61 +17,61 @@ use rows::cells::{field_name, field_rows, field_type, field_wrap};
 use table::numbers::TypeRow;
 
 // 9 for a field of the interface that the type lacks.
-fn validate_missing_field(own: &Own, interface: &Interface, i: usize, out: &mut [u32]) -> usize
-    requires field_part { FieldPart own.now.table.now.layout interface.now.first interface.now.fields.now }
-    requires i_bound { i < field_rows interface.now.fields.now }
-    ensures emitted { Emitted (missing_field own.now.ty.0 own.now.fields.now interface.now.edge interface.now.fields.now interface.now.first i) out.old out.new result }
+fn validate_missing_field(own: &Own, against: &Interface, i: usize, out: &mut [u32]) -> usize
+    requires field_part { FieldPart own.now.table.now.layout against.now.first against.now.fields.now }
+    requires i_bound { i < field_rows against.now.fields.now }
+    ensures emitted { Emitted (missing_field own.now.ty.0 own.now.fields.now against.now.edge against.now.fields.now against.now.first i) out.old out.new result }
     ensures upper_bound { result ≤ 1 }
 {
-    let None = look_up_field(own.fields, own.cells, field_name(interface.fields, i)) else {
+    let None = look_up_field(own.fields, own.cells, field_name(against.fields, i)) else {
         return 0;
     };
-    let row = (interface.first + i) as u32;
+    let row = (against.first + i) as u32;
     put(
         out,
-        Record::missing_interface_field(own.ty, interface.edge, row),
+        Record::missing_interface_field(own.ty, against.edge, row),
     )
 }
 
 // 10 for an own field whose type does not do for the interface's.
-fn validate_field_type(own: &Own, interface: &Interface, i: usize, out: &mut [u32]) -> usize
-    requires field_part { FieldPart own.now.table.now.layout interface.now.first interface.now.fields.now }
-    requires i_bound { i < field_rows interface.now.fields.now }
-    ensures emitted { Emitted (field_type_record own.now.table.now.words.now own.now.ty.0 own.now.fields_first own.now.fields.now interface.now.edge interface.now.fields.now interface.now.first i) out.old out.new result }
+fn validate_field_type(own: &Own, against: &Interface, i: usize, out: &mut [u32]) -> usize
+    requires field_part { FieldPart own.now.table.now.layout against.now.first against.now.fields.now }
+    requires i_bound { i < field_rows against.now.fields.now }
+    ensures emitted { Emitted (field_type_record own.now.table.now.words.now own.now.ty.0 own.now.fields_first own.now.fields.now against.now.edge against.now.fields.now against.now.first i) out.old out.new result }
     ensures upper_bound { result ≤ 1 }
 {
-    let Some(own_at) = look_up_field(own.fields, own.cells, field_name(interface.fields, i)) else {
+    let Some(own_at) = look_up_field(own.fields, own.cells, field_name(against.fields, i)) else {
         return 0;
     };
-    let name = field_type(interface.fields, i);
-    let wrap = field_wrap(interface.fields, i);
+    let name = field_type(against.fields, i);
+    let wrap = field_wrap(against.fields, i);
     let own_name = field_type(own.fields, own_at);
     let own_wrap = field_wrap(own.fields, own_at);
     if is_valid_implementation_field_type(own.table, name, wrap, own_name, own_wrap) {
         return 0;
     }
-    let row = (interface.first + i) as u32;
+    let row = (against.first + i) as u32;
     let own_row = (own.fields_first + own_at) as u32;
     put(
         out,
-        Record::invalid_implementation_field_type(own.ty, interface.edge, row, own_row),
+        Record::invalid_implementation_field_type(own.ty, against.edge, row, own_row),
     )
 }
 
 // 11 to 13 for a field of the interface.
-fn validate_arguments(own: &Own, interface: &Interface, i: usize, out: &mut [u32]) -> usize
-    requires field_part { FieldPart own.now.table.now.layout interface.now.first interface.now.fields.now }
-    requires i_bound { i < field_rows interface.now.fields.now }
-    ensures emitted { Emitted (field_arguments own.now.table.now.words.now own.now.ty.0 own.now.fields_first own.now.fields.now interface.now.edge interface.now.fields.now interface.now.first i) out.old out.new result }
+fn validate_arguments(own: &Own, against: &Interface, i: usize, out: &mut [u32]) -> usize
+    requires field_part { FieldPart own.now.table.now.layout against.now.first against.now.fields.now }
+    requires i_bound { i < field_rows against.now.fields.now }
+    ensures emitted { Emitted (field_arguments own.now.table.now.words.now own.now.ty.0 own.now.fields_first own.now.fields.now against.now.edge against.now.fields.now against.now.first i) out.old out.new result }
     ensures upper_bound { result ≤ most_of_interface_field }
 {
-    let Some(own_at) = look_up_field(own.fields, own.cells, field_name(interface.fields, i)) else {
+    let Some(own_at) = look_up_field(own.fields, own.cells, field_name(against.fields, i)) else {
         return 0;
     };
     let pair = FieldPair {
         ty: own.ty,
-        edge: interface.edge,
-        interface_field: (interface.first + i) as u32,
+        edge: against.edge,
+        interface_field: (against.first + i) as u32,
         own_field: (own.fields_first + own_at) as u32,
     };
     validate_implementing_arguments(own.table, pair, out)

@@ -3,6 +3,7 @@ use crate::call::Call;
 use crate::input::{Head, MOST, read_text, read_words};
 use crate::tally::Tally;
 use evidence::judged::Broken;
+use lhakvuni::c::number;
 use lhakvuni::{Refusal, check_evidence, check_table, first_cycle, make_evidence, records};
 use std::io;
 use std::io::Read;
@@ -23,22 +24,20 @@ struct Case {
 
 // The answer has the number and the value that the case asks for; a case has 0 for what is not there.
 fn answer_right(head: Head, answer: Result<usize, Refusal>) -> bool {
-    let (number, value) = match answer {
-        Ok(rows) => (0, rows),
-        Err(Refusal::ShortOut(need)) => (10, need),
-        Err(refusal) => (u32::from(refusal), 0),
+    let value = match answer {
+        Ok(n) | Err(Refusal::ShortOut(n)) => n,
+        Err(_) => 0,
     };
-    (head.number == number) & (head.value as usize == value)
+    (head.number == number(answer)) & (head.value as usize == value)
 }
 
 // The judgement has the row and the rule that the case asks for, or the refusal's number.
 fn judgement_right(head: Head, judgement: Result<Option<Broken>, Refusal>) -> bool {
-    let (number, row, rule) = match judgement {
-        Ok(None) => (0, 0, 0),
-        Ok(Some(Broken { row, rule })) => (0, row.0, rule),
-        Err(refusal) => (u32::from(refusal), 0, 0),
+    let (row, rule) = match judgement {
+        Ok(Some(Broken { row, rule })) => (row.0, rule),
+        Ok(None) | Err(_) => (0, 0),
     };
-    (head.number == number) & (head.value == row) & (head.rule == rule)
+    (head.number == number(judgement)) & (head.value == row) & (head.rule == rule)
 }
 
 impl Case {

@@ -1,5 +1,5 @@
 // Words and bytes from standard input. Where it has ended they are 0.
-ghost use Rattle.std.specs.Prelude.{◌≤◌, IfOk};
+ghost use Rattle.std.specs.Prelude.{◌≤◌, IfOk, length};
 
 use std::io;
 use std::io::Read;
@@ -27,8 +27,10 @@ pub struct Head {
     ghost out_fits: { out ≤ 4096 },
 }
 
-// Reads until the bytes are full or the input has ended; those behind are left as they were.
-fn read_full(input: &mut impl Read, bytes: &mut [u8]) -> io::Result<()> {
+// Reads until the bytes are full or the input has ended, and answers how many were read; those behind them are left as they were.
+fn read_full(input: &mut impl Read, bytes: &mut [u8]) -> io::Result<usize>
+    ensures { IfOk result (λ n. n ≤ length bytes.new) }
+{
     let mut read = 0;
     while read < bytes.len() {
         let n = input.read(&mut bytes[read..])?;
@@ -37,7 +39,7 @@ fn read_full(input: &mut impl Read, bytes: &mut [u8]) -> io::Result<()> {
         }
         read += n;
     }
-    Ok(())
+    Ok(read)
 }
 
 fn read_word(input: &mut impl Read) -> io::Result<u32> {
@@ -72,7 +74,8 @@ pub(crate) fn read_head(input: &mut impl Read) -> io::Result<Head> {
 pub(crate) fn read_text(input: &mut impl Read, text: &mut [u8]) -> io::Result<()> {
     read_full(input, text)?;
     let padding = (4 - text.len() % 4) % 4;
-    read_full(input, &mut [0; 3][..padding])
+    read_full(input, &mut [0; 3][..padding])?;
+    Ok(())
 }
 
 pub(crate) fn read_words(input: &mut impl Read, words: &mut [u32]) -> io::Result<()> {

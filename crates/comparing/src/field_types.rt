@@ -46,7 +46,7 @@ fn has_edge(table: &Table, ty: TypeRow, name: NameNo, own: TypeRow) -> bool
     requires { (ty.0 < table.now.layout.types) × (own.0 < table.now.layout.types) }
     ensures { result ≡ has_edge table.now.words.now ty.0 name.0 own.0 }
 {
-    if (table.kind(ty) == Kind::Interface) & table.kind(own).is_composite() {
+    if (table.kind(ty) == Kind::Interface) & Kind::is_composite(u32::from(table.kind(own))) {
         return table.is_edge_of(name, own);
     }
     false

@@ -37,7 +37,9 @@ fn validate_defined_edge<F: Fn(u32, TypeRow, &mut [u32]) -> usize>(
     ensures emitted { EmitsDefined (F.post rule.now) own.now.table.now.layout.types (λ list. defined_edge list own.now.table.now.words.now own.now.edges_first own.now.edges.now i) out.old out.new result }
     ensures upper_bound { result ≤ most_of_interface }
 {
-    let Some(interface) = find_interface(own.table, edge_name(own.edges, i)) else {
+    let table = own.table;
+    let name = edge_name(own.edges, i);
+    let Some(interface) = find_interface(table.words, table.layout, table.index, name) else {
         return 0;
     };
     rule((own.edges_first + i) as u32, interface, out)
@@ -66,9 +68,25 @@ fn validate_undefined_edges(own: &Own, out: &mut [u32]) -> usize
     ensures emitted { Emitted (each (undefined_edge own.now.table.now.words.now own.now.ty.0 own.now.edges_first own.now.edges.now) (edge_rows own.now.edges.now)) out.old out.new result }
     ensures upper_bound { result ≤ most_of_edges }
 {
+    let table = own.table;
+    let implementor = Implementor {
+        ty: own.ty,
+        edges_first: own.edges_first,
+        fields_first: own.fields_first,
+    };
     put_each(
         edge_rows(own.edges),
-        |i, out| validate_edge_defined(own, i, out),
+        |i, out| {
+            validate_edge_defined(
+                table.words,
+                table.layout,
+                table.index,
+                implementor,
+                own.edges,
+                i,
+                out,
+            )
+        },
         out,
     )
 }
@@ -78,9 +96,20 @@ fn validate_transitive_interfaces(own: &Own, out: &mut [u32]) -> usize
     ensures emitted { Emitted (defined_edges (transitive_edges own.now.table.now.words.now own.now.ty.0 own.now.edges.now) own.now.table.now.words.now own.now.edges_first own.now.edges.now) out.old out.new result }
     ensures upper_bound { result ≤ most_of_edges }
 {
+    let table = own.table;
     validate_defined_edges(
         own,
-        |edge, interface, out| validate_transitive_edges(own, edge, interface, out),
+        |edge, interface, out| {
+            validate_transitive_edges(
+                table.words,
+                table.layout,
+                table.lists,
+                own.ty,
+                edge,
+                interface,
+                out,
+            )
+        },
         out,
     )
 }

@@ -14,6 +14,8 @@ pub mod making;
 pub mod refusal;
 
 pub use calls::{check_table, first_cycle, records};
+pub use evidence::judged::Broken;
 pub use judging::check_evidence;
 pub use making::make_evidence;
 pub use refusal::Refusal;
+pub use table::refusal::Malformed;

@@ -9,11 +9,6 @@ use lib.ListN.{length, get_or, length-append, get_or-append}
 use lib.Seq.{get_or_at}
 use lib.Dec.{eqb}
 use borrow.Author.Tests.{lt-ltb, ltb-true, eq-eqb, eqb-true, eqb-false}
-use Rattle.std.proofs.Common.{Result, Ok, Err, MatchResult, nat_cmp, is_ok, ◌≤◌}
-use Rattle.std.proofs.Math.Nat.{eq-or-lt_of_le}
-use Rattle.std.specs.List.Sorted.{IsBinarySearchResult}
-use Rattle.std.proofs.lemmas.List.Sorted.{searched}
-use Rattle.rising.specs.Rising.{Rises}
 use Rattle.names.proofs.BoolLaws.{decide, true_false, below_or_from}
 use Rattle.rows.specs.Search.{find, index_of, contains}
 use Rattle.rows.proofs.FindLaws.{find_holds, find_least}
@@ -76,14 +71,3 @@ module _ (l : List ℕ) (x n : ℕ) where
       (λ d. in_neither f (eqb-false x n d) ∙ sym (ap (λ (b : Bool). b || eqb x n) f ∙ d))
       (decide (eqb x n)))
       (decide (contains l n))
-
--- what a search by halves finds among numbers that rise
-pub contains_searched : (l : List ℕ) (n : ℕ) (r : Result ℕ ℕ) → Rises l → IsBinarySearchResult (λ x. nat_cmp x n) l r → is_ok r ≡ contains l n
-contains_searched l n r rises h = go r (searched l n r h (λ i j a b. ⊎_elim (λ (e : i ≡ j). rw e (omega arith)) (λ q. omega (arith, rises.rise i j q b)) (eq-or-lt_of_le a)))
-  where
-    go : (r : Result ℕ ℕ)
-        → MatchResult r (λ i. (i < length l) × (get_or l i 0 ≡ n)) (λ i. (i ≤ length l) × ((k : ℕ) → k < i → get_or l k 0 < n) × ((k : ℕ) → i ≤ k → k < length l → n < get_or l k 0))
-        → is_ok r ≡ contains l n
-    go (Ok i) h = sym (contains_at l n i h.0 h.1)
-    go (Err i) h =
-        sym (contains_none l n (λ k b e. ⊎_elim (λ a. omega (arith, h.1 k a)) (λ a. omega (arith, h.2 k a b)) (below_or_from k i)))

@@ -1,4 +1,5 @@
 pub mod ContainLaws
+pub mod HalfLaws
 pub mod NumberLaws
 pub mod ListLaws
 pub mod RunLaws

@@ -5,12 +5,24 @@ ghost use Rattle.rising.specs.Rising.{Rises};
 
 use table::numbers::NameNo;
 
-// The range in which the name may stand is halved at each look.
+// The range in which the name may stand is halved at each look, and a look that meets it ends the search: the library's `binary_search_by` takes every look.
 pub fn has(sorted: &[u16], name: NameNo) -> bool
     requires { Rises sorted.now }
     ensures { result ≡ contains sorted.now name.0 }
 {
-    sorted
-        .binary_search_by(|there| (*there as u32).cmp(&name.0))
-        .is_ok()
+    let mut from = 0;
+    let mut to = sorted.len();
+    while from < to {
+        let middle = from + (to - from) / 2;
+        let there = sorted[middle] as u32;
+        if there == name.0 {
+            return true;
+        }
+        if there < name.0 {
+            from = middle + 1;
+        } else {
+            to = middle;
+        }
+    }
+    false
 }

@@ -30,7 +30,7 @@ pub fn kind_of(words: &[u32], l: Layout, t: TypeRow) -> Kind
     requires t_lt_types { t.0 < l.types }
     ensures { kind_number result ≡ type_kind words.now t.0 }
 {
-    Kind::try_from(type_kind(words, l, t)).unwrap()
+    Kind::of(type_kind(words, l, t))
 }
 
 pub fn type_flag(words: &[u32], l: Layout, t: TypeRow) -> u32

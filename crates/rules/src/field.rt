@@ -14,6 +14,7 @@ use lent::Schema;
 use records::{Place, Record, put, put_each, used};
 use rows::cells::{field_name, field_rows, field_type};
 use rows::parts::{arguments_of, arguments_start};
+use table::kinds::Kind;
 use table::numbers::{NameNo, TypeRow};
 
 // A type here: 19 for kind 5. Another: 3 unless it is a built-in scalar.
@@ -37,7 +38,7 @@ fn validate_output_type(
             Record::undefined_definition(t, name, Place::FIELD, row),
         );
     };
-    if kind.is_input_object() {
+    if Kind::is_input_object(u32::from(kind)) {
         return put(out, Record::output_type(t, row));
     }
     0

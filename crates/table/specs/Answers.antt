@@ -17,9 +17,9 @@ kind_number Union = union
 kind_number Enum = enum
 kind_number InputObject = input_object
 
--- the kind of a number, where it is one
+-- the kind of a number, where it is one; where it is none's, that number
 abbrev pub KindOf : ℕ → Result Kind NoKind → Type 0
-KindOf k r = MatchResult r (λ kind. kind_number kind ≡ k) (λ e. kinds ≤ k)
+KindOf k r = MatchResult r (λ kind. kind_number kind ≡ k) (λ e. (kinds ≤ k) × (e.0 ≡ k))
 
 -- the number of one of the table's refusals
 abbrev pub malformed_number : Malformed → ℕ

@@ -1,7 +1,6 @@
 // Refusal 5: words in their ranges, ends that rise to their counts, and rows on the kinds that may own them. Tests are joined by `&`
 // and `|`: none depends on another, and all may be asked.
 ghost use Rattle.std.specs.Prelude.{◌≡◌, true, ◌<◌};
-ghost use Rattle.table.specs.Kinds.{composite};
 ghost use Rattle.table.specs.Layout.{root_words, Laid};
 ghost use Rattle.wellformed.specs.WellFormed.{root_good, roots_good, types_good, all_ends_good, fields_good, arguments_good, lists_good, words_good, sections_fit, field_fits, fields_fit, sections_all_fit, fields_all_fit, rows_good};
 
@@ -96,13 +95,6 @@ fn words_good(words: &[u32], l: Layout) -> bool
         & roots_good(words, l)
 }
 
-// A word that may be no kind's is held against the numbers of kinds.
-fn is_composite(k: u32) -> bool
-    ensures { result ≡ composite k }
-{
-    Kind::Object.is(k) | Kind::Interface.is(k)
-}
-
 // Edges on objects and interfaces alone, fields on these and input objects, members on unions, values on enums.
 #[tactic(auto, unfolding(crate::specs::WellFormed::sections_fit, table::specs::Kinds::input_object_kind))]
 fn sections_fit(words: &[u32], l: Layout, t: TypeRow) -> bool
@@ -112,9 +104,9 @@ fn sections_fit(words: &[u32], l: Layout, t: TypeRow) -> bool
 {
     let row = t.index();
     let k = word_at(words, l.type_kinds(), row);
-    let composite = is_composite(k);
+    let composite = Kind::is_composite(k);
     (composite | is_empty(words, l.edges_ends(), row))
-        & (composite | Kind::InputObject.is(k) | is_empty(words, l.fields_ends(), row))
+        & (composite | Kind::is_input_object(k) | is_empty(words, l.fields_ends(), row))
         & (Kind::Union.is(k) | is_empty(words, l.members_ends(), row))
         & (Kind::Enum.is(k) | is_empty(words, l.values_ends(), row))
 }
@@ -126,8 +118,8 @@ fn field_fits(words: &[u32], l: Layout, k: u32, f: usize) -> bool
     requires f_lt_fields { f < l.fields }
     ensures { result ≡ field_fits words.now l k f }
 {
-    (is_composite(k) | is_empty(words, l.arguments_ends(), f))
-        & (Kind::InputObject.is(k) | (word_at(words, l.field_defaults(), f) == 0))
+    (Kind::is_composite(k) | is_empty(words, l.arguments_ends(), f))
+        & (Kind::is_input_object(k) | (word_at(words, l.field_defaults(), f) == 0))
 }
 
 // The fields of type t.

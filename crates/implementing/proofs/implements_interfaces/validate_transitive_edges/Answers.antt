@@ -9,7 +9,7 @@ pub returns-clause-emitted : goal.returns-clause-emitted
 unfolding transitive_edges
 returns-clause-emitted c =
     rw (c.edge_rows.ensures, c.edges_start-first.ensures, c.edges_of-interface_edges.ensures.result_value) at
-    (c.put_each.ensures.emitted (transitive_edge c.args.own.now.ty.0 (edges_of c.args.own.now.table.now.words.now c.args.own.now.ty.0) c.args.via_edge c.edges_start-first.result c.edges_of-interface_edges.result.now) (λ i o r u h p. search rules))
+    (c.put_each.ensures.emitted (transitive_edge c.args.ty.0 (edges_of c.args.words.now c.args.ty.0) c.args.via_edge c.edges_start-first.result c.edges_of-interface_edges.result.now) (λ i o r u h p. search rules))
 
 pub returns-clause-upper_bound : goal.returns-clause-upper_bound
 returns-clause-upper_bound c =

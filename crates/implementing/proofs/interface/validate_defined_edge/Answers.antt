@@ -5,7 +5,7 @@ use Rattle.implementing.proofs.interface.validate_defined_edge.Goals as goal
 
 pub returns-in_default-clause-emitted : goal.returns-in_default-clause-emitted
 returns-in_default-clause-emitted g c = λ list h.
-    simp (interface_none _ _ _ c.args.own.now.table.now.findable.indexed.rows.laid _ (rw c.edge_name.ensures at c.find_interface.ensures) c.in_default.is) (emit_none _)
+    simp (interface_none _ _ _ c.args.own.now.table.now.findable.indexed.rows.laid _ (rw c.edge_name-name.ensures at c.find_interface.ensures) c.in_default.is) (emit_none _)
 
 pub rule-requires : goal.rule-requires
 rule-requires g c =
@@ -13,7 +13,7 @@ rule-requires g c =
 
 pub returns : goal.returns
 returns g c =
-    let m = interface_at _ _ _ c.args.own.now.table.now.findable.indexed.rows.laid _ (rw c.edge_name.ensures at c.find_interface.ensures) _ c.in-Some.is in
+    let m = interface_at _ _ _ c.args.own.now.table.now.findable.indexed.rows.laid _ (rw c.edge_name-name.ensures at c.find_interface.ensures) _ c.in-Some.is in
     record {
       emitted = λ list h. simp (m.there, ← m.row) (h _ _ _ _ _ m.below c.rule.ensures);
       upper_bound = c.requires.bounded _ _ _ _ _ m.below c.rule.ensures;

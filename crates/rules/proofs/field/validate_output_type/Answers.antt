@@ -17,10 +17,10 @@ pub returns-then-is_input_object-clause-emitted : goal.returns-then-is_input_obj
 unfolding output_type_record
 returns-then-is_input_object-clause-emitted c =
     let (here, kind) = c.in-Some.ensures in
-    simp (here, rw kind at (sym c.is_input_object.ensures ∙ c.if-is_input_object.true), ← c.output_type.ensures) c.put-then-is_input_object.ensures.emitted
+    simp (here, rw (c.from.ensures, kind) at (sym c.is_input_object.ensures ∙ c.if-is_input_object.true), ← c.output_type.ensures) c.put-then-is_input_object.ensures.emitted
 
 pub returns-clause-emitted : goal.returns-clause-emitted
 unfolding output_type_record
 returns-clause-emitted c =
     let (here, kind) = c.in-Some.ensures in
-    simp (here, rw kind at (sym c.is_input_object.ensures ∙ c.if-is_input_object.false)) (emit_none _)
+    simp (here, rw (c.from.ensures, kind) at (sym c.is_input_object.ensures ∙ c.if-is_input_object.false)) (emit_none _)

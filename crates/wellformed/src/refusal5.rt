@@ -96,7 +96,7 @@ fn words_good(words: &[u32], l: Layout) -> bool
 }
 
 // Edges on objects and interfaces alone, fields on these and input objects, members on unions, values on enums.
-#[tactic(auto, unfolding(crate::specs::WellFormed::sections_fit, table::specs::Kinds::input_object_kind))]
+#[tactic(auto, unfolding(crate::specs::WellFormed::sections_fit))]
 fn sections_fit(words: &[u32], l: Layout, t: TypeRow) -> bool
     requires laid { Laid words.now l }
     requires t_lt_types { t.0 < l.types }
@@ -112,7 +112,7 @@ fn sections_fit(words: &[u32], l: Layout, t: TypeRow) -> bool
 }
 
 // A field of a type of kind k has arguments on objects and interfaces alone, and a default of 1 on input objects alone.
-#[tactic(auto, unfolding(crate::specs::WellFormed::field_fits, table::specs::Kinds::input_object_kind))]
+#[tactic(auto, unfolding(crate::specs::WellFormed::field_fits))]
 fn field_fits(words: &[u32], l: Layout, k: u32, f: usize) -> bool
     requires laid { Laid words.now l }
     requires f_lt_fields { f < l.fields }
